@@ -113,7 +113,7 @@ pub enum Refusal {
     ImageLength,
     MarkOrLength,
     Starts,
-    Entry,
+    Entries,
     Malformed(Row),
     NoAction(State),
     // The initial condition's row is no expression; the place is the number of states.
