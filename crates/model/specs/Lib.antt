@@ -15,4 +15,5 @@ pub mod Largest
 pub mod Speech
 pub mod Run
 pub mod Calls
+pub mod Figure2
 pub mod Cases
