@@ -2,14 +2,7 @@
 use mathlib.Core.Bool.{Bool, true, false, cond}
 use Prim.Native.Nat.{ℕ, zero, suc}
 use lib.Dec.{leb, ltb}
-use Rattle.model.specs.declared.State.{State}
-use Rattle.model.specs.declared.Variable.{Variable}
-use Rattle.model.specs.declared.Gate.{Gate}
-use Rattle.model.specs.declared.Row.{Row}
-use Rattle.model.specs.declared.Refusal.{Refusal}
-use Rattle.model.specs.declared.Refusal.the-variants.{ImageLength, MarkOrLength, Starts, Entries, Malformed, NoAction, NoCondition, NotNamedOnce, Typing, Binding, SetsShort, Initialisation, Speech, StoreLength, ParameterCount, ParameterValue, ConditionFalse, NoState, SlotValue, LabelShort, BudgetOver, Blocked, Undefined, ScriptEnded, WordOutOfRange, BudgetSpent, BlockedSpoken, SecondCommunication}
-use Rattle.model.specs.declared.Verdict.{Verdict}
-use Rattle.model.specs.declared.Verdict.the-variants.{Accepted, Refused}
+use Rattle.model.specs.declared.{State.State, Variable.Variable, Gate.Gate, Row.Row, Refusal.Refusal, Refusal.the-variants.ImageLength, Refusal.the-variants.MarkOrLength, Refusal.the-variants.Starts, Refusal.the-variants.Entries, Refusal.the-variants.Malformed, Refusal.the-variants.NoAction, Refusal.the-variants.NoCondition, Refusal.the-variants.NotNamedOnce, Refusal.the-variants.Typing, Refusal.the-variants.Binding, Refusal.the-variants.SetsShort, Refusal.the-variants.Initialisation, Refusal.the-variants.Speech, Refusal.the-variants.StoreLength, Refusal.the-variants.ParameterCount, Refusal.the-variants.ParameterValue, Refusal.the-variants.ConditionFalse, Refusal.the-variants.NoState, Refusal.the-variants.SlotValue, Refusal.the-variants.LabelShort, Refusal.the-variants.BudgetOver, Refusal.the-variants.Blocked, Refusal.the-variants.Undefined, Refusal.the-variants.ScriptEnded, Refusal.the-variants.WordOutOfRange, Refusal.the-variants.BudgetSpent, Refusal.the-variants.BlockedSpoken, Refusal.the-variants.SecondCommunication, Verdict.Verdict, Verdict.the-variants.Accepted, Verdict.the-variants.Refused}
 
 -- members of the report's sets, and rows, by their numbers
 abbrev pub state : ℕ → State
@@ -24,67 +17,49 @@ gate n = record { 0 = n }
 abbrev pub row : ℕ → Row
 row n = record { 0 = n }
 
--- the table's column "no."
-abbrev pub number : Refusal → ℕ
-number ImageLength = 1
-number MarkOrLength = 2
-number Starts = 3
-number Entries = 4
-number (Malformed r) = 5
-number (NoAction s) = 6
-number (NoCondition n) = 6
-number (NotNamedOnce r) = 7
-number (Typing r) = 8
-number (Binding r) = 9
-number SetsShort = 10
-number (Initialisation s) = 11
-number (Speech s) = 12
-number StoreLength = 13
-number ParameterCount = 14
-number (ParameterValue v) = 15
-number ConditionFalse = 16
-number NoState = 17
-number (SlotValue v) = 18
-number LabelShort = 19
-number BudgetOver = 20
-number (Blocked r) = 21
-number (Undefined r) = 22
-number (ScriptEnded r) = 23
-number (WordOutOfRange r) = 24
-number (BudgetSpent r) = 25
-number (BlockedSpoken r) = 26
-number (SecondCommunication r) = 27
+-- the table: of each refusal its number and its place
+pub record Given : Type 0 where
+  pub number : ℕ
+  pub place : ℕ
 
--- the table's column "place"
+abbrev pub line : ℕ → ℕ → Given
+line n p = record { number = n; place = p }
+
+abbrev pub given : Refusal → Given
+given ImageLength = line 1 0
+given MarkOrLength = line 2 0
+given Starts = line 3 0
+given Entries = line 4 0
+given (Malformed r) = line 5 (r .0)
+given (NoAction s) = line 6 (s .0)
+given (NoCondition n) = line 6 n
+given (NotNamedOnce r) = line 7 (r .0)
+given (Typing r) = line 8 (r .0)
+given (Binding r) = line 9 (r .0)
+given SetsShort = line 10 0
+given (Initialisation s) = line 11 (s .0)
+given (Speech s) = line 12 (s .0)
+given StoreLength = line 13 0
+given ParameterCount = line 14 0
+given (ParameterValue v) = line 15 (v .0)
+given ConditionFalse = line 16 0
+given NoState = line 17 0
+given (SlotValue v) = line 18 (v .0)
+given LabelShort = line 19 0
+given BudgetOver = line 20 0
+given (Blocked r) = line 21 (r .0)
+given (Undefined r) = line 22 (r .0)
+given (ScriptEnded r) = line 23 (r .0)
+given (WordOutOfRange r) = line 24 (r .0)
+given (BudgetSpent r) = line 25 (r .0)
+given (BlockedSpoken r) = line 26 (r .0)
+given (SecondCommunication r) = line 27 (r .0)
+
+abbrev pub number : Refusal → ℕ
+number y = given y .number
+
 abbrev pub place : Refusal → ℕ
-place ImageLength = 0
-place MarkOrLength = 0
-place Starts = 0
-place Entries = 0
-place (Malformed r) = r .0
-place (NoAction s) = s .0
-place (NoCondition n) = n
-place (NotNamedOnce r) = r .0
-place (Typing r) = r .0
-place (Binding r) = r .0
-place SetsShort = 0
-place (Initialisation s) = s .0
-place (Speech s) = s .0
-place StoreLength = 0
-place ParameterCount = 0
-place (ParameterValue v) = v .0
-place ConditionFalse = 0
-place NoState = 0
-place (SlotValue v) = v .0
-place LabelShort = 0
-place BudgetOver = 0
-place (Blocked r) = r .0
-place (Undefined r) = r .0
-place (ScriptEnded r) = r .0
-place (WordOutOfRange r) = r .0
-place (BudgetSpent r) = r .0
-place (BlockedSpoken r) = r .0
-place (SecondCommunication r) = r .0
+place y = given y .place
 
 -- the second stage's verdict, where the first refuses nothing
 unfoldable pub after : Verdict → Verdict → Verdict

@@ -1,13 +1,11 @@
 -- Binding (report, A.1; 01, "The checker's rules"; refusal 9): use and def, and the rule of each row. Assumes nothing.
-use mathlib.Core.Bool.{Bool, true, false, not, _&&_, _||_}
-use mathlib.Core.List.{List, [], _∷_, map}
+use mathlib.Core.{Bool.Bool, Bool.true, Bool.false, Bool.not, Bool._&&_, Bool._||_, List.List, List.[], List._∷_, List.map}
 use Prim.Native.Nat.{ℕ, _+_, _*_}
 use lib.Dec.{eqb}
 use Rattle.model.specs.Masks.{bit, meet, join, without, union, inside, apart}
 use Rattle.model.specs.Image.{Tables, Entry}
-use Rattle.model.specs.Rows.{Means, anExpression, aPattern, anOffer, anAction, another, meansAt}
 use Rattle.model.specs.Trees.{Exp, var, const, unary, binary, Pat, any, bind, equals, guarded, Offer, emit, receive, Action, at, Act, null, assign, choose, reset, communicate, to, then, select, case, while, for, Branches, noBranch, branch, Arms, noArm, arm}
-use Rattle.model.specs.Decode.{expressionAt, actionAt}
+use Rattle.model.specs.Decode.{expressionAt, ruleAt}
 
 -- use(E)
 unfoldable pub useOfExp : Exp → ℕ
@@ -95,23 +93,12 @@ boundAct (case e arms) = true
 boundAct (while e a) = true
 boundAct (for v low high a) = apart (bit (v .0)) (touches a)
 
-abbrev pub boundAction : Action → Bool
-boundAction (at r a) = boundAct a
-
--- a pattern is well-bound: it holds one pattern at most
-abbrev pub boundAs : Tables → ℕ → Means → Bool
-boundAs x r (anExpression e) = true
-boundAs x r (aPattern p) = true
-boundAs x r (anOffer o) = true
-boundAs x r (anAction a) = boundAction (actionAt x r)
-boundAs x r (another k) = true
-
 -- the parameters
 unfoldable pub parametersOf : List Entry → ℕ
 parametersOf [] = 0
 parametersOf (e ∷ es) = e .parameter + 2 * parametersOf es
 
--- 9: row r's rule, and the trailer's condition reads parameters only
+-- 9: row r's rule (a pattern here holds one pattern at most, so it is well-bound), and the trailer's condition reads parameters only
 unfoldable pub bound : Tables → ℕ → Bool
 bound x r =
-    boundAs x r (meansAt x r) && (not (eqb r (x .condition)) || inside (useOfExp (expressionAt x r)) (parametersOf (x .variables)))
+    ruleAt x (λ e. true) (λ p. true) boundAct r && (not (eqb r (x .condition)) || inside (useOfExp (expressionAt x r)) (parametersOf (x .variables)))

@@ -1,10 +1,7 @@
 -- Little-endian numbers and words in bytes (01, "What we are building", "The image"). Assumes nothing.
-use mathlib.Core.Bool.{cond}
-use mathlib.Core.List.{List, [], _∷_, _++_, map}
+use mathlib.Core.{Bool.cond, List.List, List.[], List._∷_, List._++_, List.map}
 use Prim.Native.Nat.{ℕ, zero, suc, _+_, _-_, _*_, _/_, _%_, _^_}
-use lib.Dec.{ltb}
-use lib.IntN.{ℤ, pos, negsuc}
-use lib.ListN.{length, take, drop}
+use lib.{Dec.ltb, IntN.ℤ, IntN.pos, IntN.negsuc, ListN.length, ListN.take, ListN.drop}
 use Rattle.model.specs.Lists.{table}
 
 -- the number that bytes say, the lowest first

@@ -1,21 +1,9 @@
 -- The three calls (01, "What we are building", "Numbers given instead"): for every input the answer and every lent word
 -- afterwards. Assumes nothing.
-use mathlib.Core.Bool.{Bool, true, false, not, _&&_, _||_}
-use mathlib.Core.List.{List, [], _∷_, _++_}
+use mathlib.Core.{Bool.Bool, Bool.true, Bool.false, Bool.not, Bool._&&_, Bool._||_, List.List, List.[], List._∷_, List._++_}
 use Prim.Native.Nat.{ℕ, zero, suc, _+_, _-_}
-use lib.Dec.{eqb, leb, ltb}
-use lib.IntN.{ℤ, pos}
-use lib.ListN.{length, getD, drop}
-use Rattle.model.specs.declared.State.{State}
-use Rattle.model.specs.declared.Move.{Move}
-use Rattle.model.specs.declared.Tested.the-variants.{Holds, Fails, Unsure}
-use Rattle.model.specs.declared.Refusal.{Refusal}
-use Rattle.model.specs.declared.Refusal.the-variants.{ImageLength, MarkOrLength, Starts, Entries, Malformed, NoAction, NoCondition, NotNamedOnce, Typing, Binding, SetsShort, Initialisation, Speech, StoreLength, ParameterCount, ParameterValue, ConditionFalse, NoState, SlotValue, LabelShort, BudgetOver}
-use Rattle.model.specs.declared.Verdict.{Verdict}
-use Rattle.model.specs.declared.Verdict.the-variants.{Accepted, Refused}
-use Rattle.model.specs.declared.Stepped.{Stepped}
-use Rattle.model.specs.declared.Stepped.the-variants.{Moved, NotMoved}
-use Rattle.model.specs.declared.Outcome.the-variants.{Ends, Jumps, Stops}
+use lib.{Dec.eqb, Dec.leb, Dec.ltb, IntN.ℤ, IntN.pos, ListN.length, ListN.getD, ListN.drop}
+use Rattle.model.specs.declared.{State.State, Move.Move, Tested.the-variants.Holds, Tested.the-variants.Fails, Tested.the-variants.Unsure, Refusal.Refusal, Refusal.the-variants.ImageLength, Refusal.the-variants.MarkOrLength, Refusal.the-variants.Starts, Refusal.the-variants.Entries, Refusal.the-variants.Malformed, Refusal.the-variants.NoAction, Refusal.the-variants.NoCondition, Refusal.the-variants.NotNamedOnce, Refusal.the-variants.Typing, Refusal.the-variants.Binding, Refusal.the-variants.SetsShort, Refusal.the-variants.Initialisation, Refusal.the-variants.Speech, Refusal.the-variants.StoreLength, Refusal.the-variants.ParameterCount, Refusal.the-variants.ParameterValue, Refusal.the-variants.ConditionFalse, Refusal.the-variants.NoState, Refusal.the-variants.SlotValue, Refusal.the-variants.LabelShort, Refusal.the-variants.BudgetOver, Verdict.Verdict, Verdict.the-variants.Accepted, Verdict.the-variants.Refused, Stepped.Stepped, Stepped.the-variants.Moved, Stepped.the-variants.NotMoved, Outcome.the-variants.Ends, Outcome.the-variants.Jumps, Outcome.the-variants.Stops}
 use Rattle.model.specs.Limits.{limits}
 use Rattle.model.specs.Answers.{state, variable, row, after, unless, each}
 use Rattle.model.specs.Values.{mark, same, ofSize}

@@ -1,17 +1,9 @@
 -- The starred cases of 01 ("Worked automaton and edges") and one for each item of "Tempting and wrong", as one list. Assumes
 -- nothing.
-use mathlib.Core.Path.{_≡_}
-use mathlib.Core.List.{List, [], _∷_, _++_}
+use mathlib.Core.{Path._≡_, List.List, List.[], List._∷_, List._++_}
 use Prim.Native.Nat.{ℕ, _+_, _*_}
-use lib.IntN.{ℤ, pos, negsuc}
-use lib.ListN.{length, replicate}
-use Rattle.model.specs.declared.State.{State}
-use Rattle.model.specs.declared.Fields.{Fields}
-use Rattle.model.specs.declared.Image.{Image}
-use Rattle.model.specs.declared.Refusal.the-variants.{Initialisation, Speech, Blocked, Undefined, BudgetSpent}
-use Rattle.model.specs.declared.Refusal.{Refusal}
-use Rattle.model.specs.declared.Verdict.the-variants.{Accepted, Refused}
-use Rattle.model.specs.declared.Stepped.the-variants.{Moved, NotMoved}
+use lib.{IntN.ℤ, IntN.pos, IntN.negsuc, ListN.length, ListN.replicate}
+use Rattle.model.specs.declared.{State.State, Fields.Fields, Image.Image, Refusal.the-variants.Initialisation, Refusal.the-variants.Speech, Refusal.the-variants.Blocked, Refusal.the-variants.Undefined, Refusal.the-variants.BudgetSpent, Refusal.Refusal, Verdict.the-variants.Accepted, Verdict.the-variants.Refused, Stepped.the-variants.Moved, Stepped.the-variants.NotMoved}
 use Rattle.model.specs.Answers.{state, row}
 use Rattle.model.specs.Bytes.{bytesOf}
 use Rattle.model.specs.Image.{Entry, none, bool, int}

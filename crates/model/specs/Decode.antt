@@ -1,13 +1,9 @@
 -- The trees that rows say (01, "The image"). Rows name only lower rows, so the row's number is fuel enough. A row of another
 -- kind, which 5 and 6 shut out, reads as the constant false, as any bool or as null. Assumes nothing.
-use mathlib.Core.Bool.{true, false, cond}
-use mathlib.Core.List.{List, [], _∷_, map}
+use mathlib.Core.{Bool.Bool, Bool.true, Bool.false, Bool.cond, List.List, List.[], List._∷_, List.map}
 use Prim.Native.Nat.{ℕ, zero, suc}
-use lib.Dec.{eqb}
-use lib.IntN.{ℤ, pos}
-use lib.ListN.{getD}
-use Rattle.model.specs.declared.Fields.{Fields}
-use Rattle.model.specs.declared.Variable.{Variable}
+use lib.{Dec.eqb, IntN.ℤ, IntN.pos, ListN.getD}
+use Rattle.model.specs.declared.{Fields.Fields, Variable.Variable}
 use Rattle.model.specs.Answers.{state, variable, gate}
 use Rattle.model.specs.Bytes.{signed}
 use Rattle.model.specs.Values.{half16}
@@ -123,6 +119,20 @@ actionBy (suc n) x r = at r (growAction x (λ i. actionBy n x i) (fieldsOf x r) 
 
 unfoldable pub actionAt : Tables → ℕ → Action
 actionAt x r = actionBy (suc r) x r
+
+abbrev pub actOf : Action → Act
+actOf (at r a) = a
+
+-- a rule for each kind of row that can be a place of 8 and 9, at row r
+unfoldable pub ruleAt : Tables → (Exp → Bool) → (Pat → Bool) → (Act → Bool) → ℕ → Bool
+ruleAt x e p a r =
+    elim (meansAt x r) [
+      | anExpression m ↦ e (expressionAt x r)
+      | aPattern m ↦ p (patternAt x r)
+      | anOffer m ↦ true
+      | anAction m ↦ a (actOf (actionAt x r))
+      | another k ↦ true
+    ]
 
 -- act(s) of the report: the action of a state; the initial condition
 abbrev pub act : Tables → ℕ → Action

@@ -1,16 +1,9 @@
 -- Figure 2 of the report, rule by rule as printed, with match and accept of section 3.4 and appendix B.2. A for is its
 -- expansion. Derivations are data: what they cost, choose and read are functions of them. Assumes nothing.
-use mathlib.Core.Path.{_≡_}
-use mathlib.Core.Bool.{true, false, cond}
-use mathlib.Core.List.{List, [], _∷_, _++_}
+use mathlib.Core.{Path._≡_, Bool.true, Bool.false, Bool.cond, List.List, List.[], List._∷_, List._++_, List.map}
 use Prim.Native.Nat.{ℕ, zero, suc, _+_}
-use lib.Dec.{eqb}
-use lib.IntN.{ℤ, pos}
-use Rattle.model.specs.declared.State.{State}
-use Rattle.model.specs.declared.Variable.{Variable}
-use Rattle.model.specs.declared.Gate.{Gate}
-use Rattle.model.specs.declared.Value.the-variants.{Is, Unknown}
-use Rattle.model.specs.declared.Tested.the-variants.{Holds, Fails, Unsure}
+use lib.{Dec.eqb, IntN.ℤ, IntN.pos}
+use Rattle.model.specs.declared.{State.State, Variable.Variable, Gate.Gate, Value.the-variants.Is, Value.the-variants.Unknown, Tested.the-variants.Holds, Tested.the-variants.Fails, Tested.the-variants.Unsure}
 use Rattle.model.specs.Values.{same, ofSize}
 use Rattle.model.specs.Image.{Tables, none, sizeOf}
 use Rattle.model.specs.Trees.{Exp, Pat, any, bind, equals, guarded, Offer, emit, receive, Gets, OfType, Action, at, Act, null, assign, choose, reset, communicate, to, then, select, case, while, for, Branches, noBranch, branch, Arms, noArm, arm}
@@ -51,19 +44,20 @@ MayTake x (receive p) z = OfThe x (typeOfPat x p) z
 
 -- accept(v_i, ρ_i, O_i) = ρ_{i+1} ≠ fail, for each i
 pub data Accepts (x : Tables) : List Offer → List ℤ → List ℤ → List ℤ → Type 0 where
-  none-left : {m : List ℤ} → Accepts x [] [] m m
-  one-more : {o : Offer} {os : List Offer} {z : ℤ} {zs m n k : List ℤ} → MayTake x o z → accept x z m o ≡ found n
+  all-run : {m : List ℤ} → Accepts x [] [] m m
+  runs : {o : Offer} {os : List Offer} {z : ℤ} {zs m n k : List ℤ} → MayTake x o z → accept x z m o ≡ found n
       → Accepts x os zs n k → Accepts x (o ∷ os) (z ∷ zs) m k
 
--- eval(E_i, ρ, v_i), for each i
-pub data Evals (x : Tables) (m : List ℤ) : List Gets → List ℤ → Type 0 where
-  none-left : Evals x m [] []
-  one-more : {i : Gets} {is : List Gets} {z : ℤ} {zs : List ℤ} → eval x (i .e) m ≡ Is z → Evals x m is zs → Evals x m (i ∷ is) (z ∷ zs)
+-- one value for each item, as R says: eval(E_i, ρ, v_i), and v_i ∈ T_i
+pub data Each {A : Type 0} (R : A → ℤ → Type 0) : List A → List ℤ → Type 0 where
+  none-left : Each R [] []
+  one-more : {i : A} {is : List A} {z : ℤ} {zs : List ℤ} → R i z → Each R is zs → Each R (i ∷ is) (z ∷ zs)
 
--- v_i ∈ T_i, for each i
-pub data Chosen (x : Tables) : List OfType → List ℤ → Type 0 where
-  none-left : Chosen x [] []
-  one-more : {i : OfType} {is : List OfType} {z : ℤ} {zs : List ℤ} → OfThe x (i .t) z → Chosen x is zs → Chosen x (i ∷ is) (z ∷ zs)
+abbrev pub Evals : Tables → List ℤ → List Gets → List ℤ → Type 0
+Evals x m is zs = Each (λ i z. eval x (i .e) m ≡ Is z) is zs
+
+abbrev pub Chosen : Tables → List OfType → List ℤ → Type 0
+Chosen x is zs = Each (λ i z. OfThe x (i .t) z) is zs
 
 -- ρ ⊙ [V_0 ↦ v_0, ..., V_n ↦ v_n]
 unfoldable pub update : List ℤ → List Variable → List ℤ → List ℤ
@@ -71,13 +65,11 @@ update m [] zs = m
 update m (v ∷ vs) [] = m
 update m (v ∷ vs) (z ∷ zs) = update (store m v z) vs zs
 
-unfoldable pub getters : List Gets → List Variable
-getters [] = []
-getters (i ∷ is) = i .v ∷ getters is
+abbrev pub getters : List Gets → List Variable
+getters is = map (λ i. i .v) is
 
-unfoldable pub choosers : List OfType → List Variable
-choosers [] = []
-choosers (i ∷ is) = i .v ∷ choosers is
+abbrev pub choosers : List OfType → List Variable
+choosers is = map (λ i. i .v) is
 
 -- ℓ = ℓ_1 + ℓ_2
 abbrev pub Sum : Label → Label → Label → Type 0
@@ -100,7 +92,7 @@ pub data Taken (x : Tables) (z : ℤ) (m : List ℤ) : Arms → Action → List 
 abbrev pub expansion : ℕ → Variable → ℤ → ℤ → Action → Action
 expansion r v low high a =
     at none (then (at none (assign (toLow v low)))
-      (at r (while (atMostHigh v high) (at none (then a (at none (assign (onward v))))))))
+    (at r (while (atMostHigh v high) (at none (then a (at none (assign (onward v))))))))
 
 -- [A], ρ ⇒ s, ρ' with label ℓ
 pub data Does (x : Tables) : Action → List ℤ → Label → Next → List ℤ → Type 0 where

@@ -1,12 +1,8 @@
 -- The image: its trailer and its tables (01, "The image"; refusals 1 to 4). Assumes nothing.
-use mathlib.Core.Bool.{Bool, true, false, _&&_}
-use mathlib.Core.List.{List, [], _∷_}
+use mathlib.Core.{Bool.Bool, Bool.true, Bool.false, Bool._&&_, List.List, List.[], List._∷_}
 use Prim.Native.Nat.{ℕ, zero, suc, _+_, _-_, _*_, _/_, _%_}
-use lib.Dec.{eqb, leb, ltb}
-use lib.ListN.{length, getD}
-use Rattle.model.specs.declared.Image.{Image}
-use Rattle.model.specs.declared.Fields.{Fields}
-use Rattle.model.specs.declared.Variable.{Variable}
+use lib.{Dec.eqb, Dec.leb, Dec.ltb, ListN.length, ListN.getD}
+use Rattle.model.specs.declared.{Image.Image, Fields.Fields, Variable.Variable}
 use Rattle.model.specs.Limits.{limits}
 use Rattle.model.specs.Lists.{table}
 use Rattle.model.specs.Bytes.{halfAt}

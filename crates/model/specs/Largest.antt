@@ -1,11 +1,8 @@
 -- Initialisation, the whole automaton (report, Figure 8; 01: "the largest that fit"; refusal 11): what the sets are, and how
 -- they are found. Assumes nothing.
-use mathlib.Core.Path.{_≡_}
-use mathlib.Core.Bool.{Bool, true, false, not, cond, _&&_, _||_}
-use mathlib.Core.List.{List, [], _∷_}
+use mathlib.Core.{Path._≡_, Bool.Bool, Bool.true, Bool.false, Bool.not, Bool.cond, Bool._&&_, Bool._||_, List.List, List.[], List._∷_}
 use Prim.Native.Nat.{ℕ, zero, suc, _+_, _≤_, _<_}
-use lib.Dec.{T, eqb}
-use lib.ListN.{length, getD}
+use lib.{Dec.T, Dec.eqb, ListN.length, ListN.getD}
 use Rattle.model.specs.Lists.{table}
 use Rattle.model.specs.Masks.{digit, Has, has, bit, full, meet, join}
 use Rattle.model.specs.Image.{Tables}

@@ -1,6 +1,5 @@
 -- Lists: made from an index, and a test of each element. Assumes nothing.
-use mathlib.Core.Bool.{Bool, true, _&&_}
-use mathlib.Core.List.{List, [], _∷_}
+use mathlib.Core.{Bool.Bool, Bool.true, Bool._&&_, List.List, List.[], List._∷_}
 use Prim.Native.Nat.{ℕ, zero, suc}
 
 -- f i, f (i + 1), ..., n of them

@@ -1,10 +1,7 @@
 -- Sets of variables and of states as masks (01, "What we are building": bit v for variable v). Assumes nothing.
-use mathlib.Core.Bool.{Bool}
-use mathlib.Core.List.{List, [], _∷_}
+use mathlib.Core.{Bool.Bool, List.List, List.[], List._∷_, Path._≡_}
 use Prim.Native.Nat.{ℕ, zero, suc, _-_, _/_, _%_, _^_}
-use lib.Bits.{bitAnd, bitOr}
-use lib.Dec.{eqb}
-use mathlib.Core.Path.{_≡_}
+use lib.{Bits.bitAnd, Bits.bitOr, Dec.eqb}
 
 -- digit v, 0 or 1
 unfoldable pub digit : ℕ → ℕ → ℕ

@@ -1,10 +1,8 @@
 -- The table of codes (01, "The image"): what each row is and what its fields name, and the refusals 5, 6 and 7 that read
 -- it. Assumes nothing.
-use mathlib.Core.Bool.{Bool, true, false, not, _&&_, _||_}
-use mathlib.Core.List.{List, [], _∷_, _++_}
+use mathlib.Core.{Bool.Bool, Bool.true, Bool.false, Bool.not, Bool._&&_, Bool._||_, List.List, List.[], List._∷_, List._++_}
 use Prim.Native.Nat.{ℕ, zero, suc, _+_}
-use lib.Dec.{eqb, leb, ltb}
-use lib.ListN.{length, getD}
+use lib.{Dec.eqb, Dec.leb, Dec.ltb, ListN.length, ListN.getD}
 use Rattle.model.specs.declared.Fields.{Fields}
 use Rattle.model.specs.Limits.{limits}
 use Rattle.model.specs.Image.{Tables, none, int, sizeOf, fieldsOf}
@@ -13,21 +11,59 @@ use Rattle.model.specs.Image.{Tables, none, int, sizeOf, fieldsOf}
 pub data Unary : Type 0 where
   Not Negate : Unary
 
-pub data Binary : Type 0 where
-  And Or Plus Minus Times Quotient Remainder Equal Less AtMost : Binary
+pub data Logic : Type 0 where
+  And Or : Logic
 
--- kinds of rows: a field that names a row names one of a kind
+pub data Arithmetic : Type 0 where
+  Plus Minus Times Quotient Remainder : Arithmetic
+
+pub data Comparison : Type 0 where
+  Equal Less AtMost : Comparison
+
+pub data Binary : Type 0 where
+  logic : Logic → Binary
+  arithmetic : Arithmetic → Binary
+  comparison : Comparison → Binary
+
+-- kinds of rows
 pub data Kind : Type 0 where
   expression pattern offer gets ofType item range action branch arm unknown : Kind
 
--- what a field holds; `one` names a row of a kind, `list` the first row of a list of so many at most, `next` the next row of
--- its own list
+-- what a field is: a number that passes a test; a row of a kind; the first row of a list of so many at most; the next row of
+-- the list that its own row is in, or none
 pub data Field : Type 0 where
-  unused variable type value gate state literal upper next : Field
+  plain : (Tables → Fields → ℕ → Bool) → Field
   one : Kind → Field
   oneOrNone : Kind → Field
   list : Kind → ℕ → Field
   listOrNone : Kind → ℕ → Field
+  next : Field
+
+abbrev pub unused : Field
+unused = plain (λ x w n. eqb n 0)
+
+abbrev pub variable : Field
+variable = plain (λ x w n. ltb n (length (x .variables)))
+
+abbrev pub type : Field
+type = plain (λ x w n. ltb n (length (x .sizes)))
+
+-- a value of the type in field a
+abbrev pub value : Field
+value = plain (λ x w n. eqb (w .a) int || ltb n (sizeOf x (w .a)))
+
+abbrev pub gate : Field
+gate = plain (λ x w n. ltb n (x .gates))
+
+abbrev pub state : Field
+state = plain (λ x w n. ltb n (length (x .states)))
+
+abbrev pub literal : Field
+literal = plain (λ x w n. true)
+
+-- "The upper literal of a range is at most 32,766"
+abbrev pub upper : Field
+upper = plain (λ x w n. not (eqb n 0x7FFF))
 
 pub data ExpressionRow : Type 0 where
   isVariable isConstant : ExpressionRow
@@ -69,23 +105,29 @@ pub record Shape : Type 0 where
 abbrev pub line : ℕ → Means → Field → Field → Field → Shape
 line n m a b c = record { code = n; means = m; a = a; b = b; c = c }
 
+abbrev pub operator1 : ℕ → Unary → Shape
+operator1 n o = line n (anExpression (isUnary o)) (one expression) unused unused
+
+abbrev pub operator2 : ℕ → Binary → Shape
+operator2 n o = line n (anExpression (isBinary o)) (one expression) (one expression) unused
+
 -- the table of codes
 unfoldable pub codes : List Shape
 codes =
     line 1 (anExpression isVariable) variable unused unused
     ∷ line 2 (anExpression isConstant) type value unused
-    ∷ line 16 (anExpression (isUnary Not)) (one expression) unused unused
-    ∷ line 17 (anExpression (isBinary And)) (one expression) (one expression) unused
-    ∷ line 18 (anExpression (isBinary Or)) (one expression) (one expression) unused
-    ∷ line 19 (anExpression (isUnary Negate)) (one expression) unused unused
-    ∷ line 20 (anExpression (isBinary Plus)) (one expression) (one expression) unused
-    ∷ line 21 (anExpression (isBinary Minus)) (one expression) (one expression) unused
-    ∷ line 22 (anExpression (isBinary Times)) (one expression) (one expression) unused
-    ∷ line 23 (anExpression (isBinary Quotient)) (one expression) (one expression) unused
-    ∷ line 24 (anExpression (isBinary Remainder)) (one expression) (one expression) unused
-    ∷ line 25 (anExpression (isBinary Equal)) (one expression) (one expression) unused
-    ∷ line 26 (anExpression (isBinary Less)) (one expression) (one expression) unused
-    ∷ line 27 (anExpression (isBinary AtMost)) (one expression) (one expression) unused
+    ∷ operator1 16 Not
+    ∷ operator2 17 (logic And)
+    ∷ operator2 18 (logic Or)
+    ∷ operator1 19 Negate
+    ∷ operator2 20 (arithmetic Plus)
+    ∷ operator2 21 (arithmetic Minus)
+    ∷ operator2 22 (arithmetic Times)
+    ∷ operator2 23 (arithmetic Quotient)
+    ∷ operator2 24 (arithmetic Remainder)
+    ∷ operator2 25 (comparison Equal)
+    ∷ operator2 26 (comparison Less)
+    ∷ operator2 27 (comparison AtMost)
     ∷ line 32 (aPattern isAny) type unused unused
     ∷ line 33 (aPattern isBind) variable unused unused
     ∷ line 34 (aPattern isValue) type value unused
@@ -143,19 +185,12 @@ unfoldable pub isKind : Tables → Kind → ℕ → Bool
 isKind x k r = sameKind (kindOf (meansAt x r)) k
 
 abbrev pub pickNext : Field → ℕ → ℕ → ℕ
-pickNext unused n m = m
-pickNext variable n m = m
-pickNext type n m = m
-pickNext value n m = m
-pickNext gate n m = m
-pickNext state n m = m
-pickNext literal n m = m
-pickNext upper n m = m
-pickNext next n m = n
+pickNext (plain p) n m = m
 pickNext (one k) n m = m
 pickNext (oneOrNone k) n m = m
 pickNext (list k most) n m = m
 pickNext (listOrNone k most) n m = m
+pickNext next n m = n
 
 -- the row that row r's next field names
 unfoldable pub nextOf : Tables → ℕ → ℕ
@@ -179,19 +214,12 @@ listFits x most r = leb (length (listUpTo (suc most) x r)) most
 
 -- field n of row r with fields w is as its line says
 unfoldable pub fieldFits : Tables → ℕ → Fields → Field → ℕ → Bool
-fieldFits x r w unused n = eqb n 0
-fieldFits x r w variable n = ltb n (length (x .variables))
-fieldFits x r w type n = ltb n (length (x .sizes))
-fieldFits x r w value n = eqb (w .a) int || ltb n (sizeOf x (w .a))
-fieldFits x r w gate n = ltb n (x .gates)
-fieldFits x r w state n = ltb n (length (x .states))
-fieldFits x r w literal n = true
-fieldFits x r w upper n = not (eqb n 0x7FFF)
-fieldFits x r w next n = eqb n none || names x r (kindOf (meansAt x r)) n
+fieldFits x r w (plain p) n = p x w n
 fieldFits x r w (one k) n = names x r k n
 fieldFits x r w (oneOrNone k) n = eqb n none || names x r k n
 fieldFits x r w (list k most) n = names x r k n && listFits x most n
 fieldFits x r w (listOrNone k most) n = eqb n none || (names x r k n && listFits x most n)
+fieldFits x r w next n = eqb n none || names x r (kindOf (meansAt x r)) n
 
 -- 5: row r has a code of the table, and its fields are as its line says
 unfoldable pub formed : Tables → ℕ → Bool
@@ -204,20 +232,16 @@ formed x r =
 unfoldable pub isRoot : Tables → Kind → ℕ → Bool
 isRoot x k r = ltb r (length (x .rows)) && isKind x k r
 
+unfoldable pub unlessNone : ℕ → List ℕ
+unlessNone n = elim (eqb n none) [ true ↦ [] | false ↦ n ∷ [] ]
+
 unfoldable pub namedBy : Field → ℕ → List ℕ
-namedBy unused n = []
-namedBy variable n = []
-namedBy type n = []
-namedBy value n = []
-namedBy gate n = []
-namedBy state n = []
-namedBy literal n = []
-namedBy upper n = []
-namedBy next n = elim (eqb n none) [ true ↦ [] | false ↦ n ∷ [] ]
+namedBy (plain p) n = []
 namedBy (one k) n = n ∷ []
-namedBy (oneOrNone k) n = elim (eqb n none) [ true ↦ [] | false ↦ n ∷ [] ]
+namedBy (oneOrNone k) n = unlessNone n
 namedBy (list k most) n = n ∷ []
-namedBy (listOrNone k most) n = elim (eqb n none) [ true ↦ [] | false ↦ n ∷ [] ]
+namedBy (listOrNone k most) n = unlessNone n
+namedBy next n = unlessNone n
 
 -- the rows that a row's fields name
 unfoldable pub namedIn : Fields → List ℕ
@@ -231,10 +255,10 @@ namedByRows (w ∷ ws) = namedIn w ++ namedByRows ws
 unfoldable pub named : Tables → List ℕ
 named x = namedByRows (x .rows) ++ (x .states ++ (x .condition ∷ []))
 
-unfoldable pub times : ℕ → List ℕ → ℕ
-times r [] = 0
-times r (n ∷ ns) = elim (eqb r n) [ true ↦ suc (times r ns) | false ↦ times r ns ]
+unfoldable pub occurs : ℕ → List ℕ → ℕ
+occurs r [] = 0
+occurs r (n ∷ ns) = elim (eqb r n) [ true ↦ suc (occurs r ns) | false ↦ occurs r ns ]
 
 -- 7: "every row is named exactly once"
 unfoldable pub namedOnce : Tables → ℕ → Bool
-namedOnce x r = eqb (times r (named x)) 1
+namedOnce x r = eqb (occurs r (named x)) 1

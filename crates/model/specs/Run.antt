@@ -1,28 +1,14 @@
 -- The run of an action (report, section 3.4 and Figure 2; 01, "The step"; refusals 21 to 27): what it does with a script and
 -- a budget. Assumes nothing.
-use mathlib.Core.Bool.{Bool, true, false, not, cond, _&&_, _||_}
-use mathlib.Core.List.{List, [], _∷_, _++_}
+use mathlib.Core.{Bool.Bool, Bool.true, Bool.false, Bool.not, Bool.cond, Bool._&&_, Bool._||_, List.List, List.[], List._∷_, List._++_}
 use Prim.Native.Nat.{ℕ, zero, suc, _+_, _-_, _/_}
-use lib.Dec.{eqb, ltb}
-use lib.IntN.{ℤ, pos, negsuc}
-use lib.ListN.{length, getD, set, replicate}
-use lib.Signed.{ltZ, leZ}
-use Rattle.model.specs.declared.Gate.{Gate}
-use Rattle.model.specs.declared.State.{State}
-use Rattle.model.specs.declared.Variable.{Variable}
-use Rattle.model.specs.declared.Value.{Value}
-use Rattle.model.specs.declared.Value.the-variants.{Is, Unknown}
-use Rattle.model.specs.declared.Tested.{Tested}
-use Rattle.model.specs.declared.Tested.the-variants.{Holds, Fails, Unsure}
-use Rattle.model.specs.declared.Refusal.{Refusal}
-use Rattle.model.specs.declared.Refusal.the-variants.{Blocked, Undefined, ScriptEnded, WordOutOfRange, BudgetSpent, BlockedSpoken, SecondCommunication}
-use Rattle.model.specs.declared.Outcome.{Outcome}
-use Rattle.model.specs.declared.Outcome.the-variants.{Ends, Jumps, Stops}
+use lib.{Dec.eqb, Dec.ltb, IntN.ℤ, IntN.pos, IntN.negsuc, ListN.length, ListN.getD, ListN.set, ListN.replicate, Signed.ltZ, Signed.leZ}
+use Rattle.model.specs.declared.{Gate.Gate, State.State, Variable.Variable, Value.Value, Value.the-variants.Is, Value.the-variants.Unknown, Tested.Tested, Tested.the-variants.Holds, Tested.the-variants.Fails, Tested.the-variants.Unsure, Refusal.Refusal, Refusal.the-variants.Blocked, Refusal.the-variants.Undefined, Refusal.the-variants.ScriptEnded, Refusal.the-variants.WordOutOfRange, Refusal.the-variants.BudgetSpent, Refusal.the-variants.BlockedSpoken, Refusal.the-variants.SecondCommunication, Outcome.Outcome, Outcome.the-variants.Ends, Outcome.the-variants.Jumps, Outcome.the-variants.Stops}
 use Rattle.model.specs.Answers.{row}
 use Rattle.model.specs.Bytes.{wordAt}
 use Rattle.model.specs.Values.{mark, isZero, negate, plus, minus, times, quotient, remainder, same, ofBool, ofSize}
 use Rattle.model.specs.Image.{Tables, none, bool, int, sizeOf, typeOf}
-use Rattle.model.specs.Rows.{Unary, Not, Negate, Binary, And, Or, Plus, Minus, Times, Quotient, Remainder, Equal, Less, AtMost}
+use Rattle.model.specs.Rows.{Unary, Not, Negate, Binary, logic, And, Or, arithmetic, Plus, Minus, Times, Quotient, Remainder, comparison, Equal, Less, AtMost}
 use Rattle.model.specs.Trees.{Exp, var, const, unary, binary, Pat, any, bind, equals, guarded, Offer, emit, receive, Gets, OfType, Action, at, Act, null, assign, choose, reset, communicate, to, then, select, case, while, for, Branches, noBranch, branch, someBranch, Arms, noArm, arm}
 use Rattle.model.specs.Typing.{typeOfPat}
 
@@ -44,16 +30,16 @@ applyUnary h Not a = ofBool (isZero a)
 applyUnary h Negate a = negate h a
 
 unfoldable pub applyBinary : ℕ → Binary → ℤ → ℤ → ℤ
-applyBinary h And a b = ofBool (not (isZero a) && not (isZero b))
-applyBinary h Or a b = ofBool (not (isZero a) || not (isZero b))
-applyBinary h Plus a b = plus h a b
-applyBinary h Minus a b = minus h a b
-applyBinary h Times a b = times h a b
-applyBinary h Quotient a b = quotient h a b
-applyBinary h Remainder a b = remainder a b
-applyBinary h Equal a b = ofBool (same a b)
-applyBinary h Less a b = ofBool (ltZ a b)
-applyBinary h AtMost a b = ofBool (leZ a b)
+applyBinary h (logic And) a b = ofBool (not (isZero a) && not (isZero b))
+applyBinary h (logic Or) a b = ofBool (not (isZero a) || not (isZero b))
+applyBinary h (arithmetic Plus) a b = plus h a b
+applyBinary h (arithmetic Minus) a b = minus h a b
+applyBinary h (arithmetic Times) a b = times h a b
+applyBinary h (arithmetic Quotient) a b = quotient h a b
+applyBinary h (arithmetic Remainder) a b = remainder a b
+applyBinary h (comparison Equal) a b = ofBool (same a b)
+applyBinary h (comparison Less) a b = ofBool (ltZ a b)
+applyBinary h (comparison AtMost) a b = ofBool (leZ a b)
 
 -- eval(E, ρ, v); "And, or evaluate both operands"
 unfoldable pub eval : Tables → Exp → List ℤ → Value
@@ -212,13 +198,13 @@ looping (suc n) x e body r s =
 
 -- for V in low..high do A = V := low; while V <= high do A; V := V + 1 end
 abbrev pub atMostHigh : Variable → ℤ → Exp
-atMostHigh v high = binary AtMost (var v) (const int high)
+atMostHigh v high = binary (comparison AtMost) (var v) (const int high)
 
 abbrev pub toLow : Variable → ℤ → List Gets
 toLow v low = record { v = v; e = const int low } ∷ []
 
 abbrev pub onward : Variable → List Gets
-onward v = record { v = v; e = binary Plus (var v) (const int (pos 1)) } ∷ []
+onward v = record { v = v; e = binary (arithmetic Plus) (var v) (const int (pos 1)) } ∷ []
 
 unfoldable mutual
   pub exec : Tables → Action → List ℕ → St → Res

@@ -1,7 +1,6 @@
 -- Initialisation, one action (report, Figure 7 as 01 reads it): m is the set of variables surely defined on entering, top all
 -- variables; where an action never ends, or never jumps to a state, its set there is top. Assumes nothing.
-use mathlib.Core.Bool.{Bool, true, false, _&&_}
-use mathlib.Core.List.{List, map}
+use mathlib.Core.{Bool.Bool, Bool.true, Bool.false, Bool._&&_, List.List, List.map}
 use Prim.Native.Nat.{ℕ}
 use lib.Dec.{eqb}
 use Rattle.model.specs.Lists.{all}

@@ -2,8 +2,7 @@
 -- nothing.
 use mathlib.Core.Bool.{Bool, true, false, not, _&&_, _||_}
 use Prim.Native.Nat.{ℕ, zero, suc}
-use lib.Dec.{eqb}
-use lib.IntN.{ℤ, pos, negsuc}
+use lib.{Dec.eqb, IntN.ℤ, IntN.pos, IntN.negsuc}
 use Rattle.model.specs.Values.{same}
 use Rattle.model.specs.Image.{Tables, bool, int, sizeOf}
 use Rattle.model.specs.Trees.{Exp, var, const, unary, binary, Pat, any, bind, equals, guarded, Action, at, Act, null, assign, choose, reset, communicate, to, then, select, case, while, for, Branches, noBranch, branch, someBranch, Arms, noArm, arm}

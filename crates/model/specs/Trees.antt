@@ -1,12 +1,9 @@
 -- Expressions, patterns, offers and actions (report, Figure 1) as trees. An action carries its row, which places name; an
 -- action that no row says, as the parts of a for's expansion, is at row none. Assumes nothing.
-use mathlib.Core.Bool.{Bool, true, false}
-use mathlib.Core.List.{List}
+use mathlib.Core.{Bool.Bool, Bool.true, Bool.false, List.List}
 use Prim.Native.Nat.{ℕ}
 use lib.IntN.{ℤ}
-use Rattle.model.specs.declared.State.{State}
-use Rattle.model.specs.declared.Variable.{Variable}
-use Rattle.model.specs.declared.Gate.{Gate}
+use Rattle.model.specs.declared.{State.State, Variable.Variable, Gate.Gate}
 use Rattle.model.specs.Rows.{Unary, Binary}
 
 -- R1 to R3: a variable; a constant of a type; an operator's call

@@ -1,14 +1,13 @@
 -- Typing (report, A.2; 01, "The checker's rules"; refusal 8): the rule of each row. Assumes nothing.
-use mathlib.Core.Bool.{Bool, true, false, not, _&&_, _||_}
-use mathlib.Core.List.{List, [], _∷_}
+use mathlib.Core.{Bool.Bool, Bool.true, Bool.false, Bool.not, Bool._&&_, Bool._||_, List.List, List.[], List._∷_}
 use Prim.Native.Nat.{ℕ}
 use lib.Dec.{eqb}
 use Rattle.model.specs.declared.Gate.{Gate}
 use Rattle.model.specs.Lists.{all}
 use Rattle.model.specs.Image.{Tables, bool, int, typeOf}
-use Rattle.model.specs.Rows.{Unary, Not, Negate, Binary, And, Or, Plus, Minus, Times, Quotient, Remainder, Equal, Less, AtMost, Means, anExpression, aPattern, anOffer, anAction, another, meansAt}
-use Rattle.model.specs.Trees.{Exp, var, const, unary, binary, Pat, any, bind, equals, guarded, Offer, Gets, OfType, Action, at, Act, null, assign, choose, reset, communicate, to, then, select, case, while, for, Arms, noArm, arm}
-use Rattle.model.specs.Decode.{expressionAt, patternAt, actionAt}
+use Rattle.model.specs.Rows.{Unary, Not, Negate, Equal, Less, AtMost, Binary, logic, arithmetic, comparison}
+use Rattle.model.specs.Trees.{Exp, var, const, unary, binary, Pat, any, bind, equals, guarded, Offer, Gets, OfType, Act, null, assign, choose, reset, communicate, to, then, select, case, while, for, Arms, noArm, arm}
+use Rattle.model.specs.Decode.{expressionAt, ruleAt}
 
 -- operand and result type of an operator of one operand
 abbrev pub typeOfUnary : Unary → ℕ
@@ -17,29 +16,17 @@ typeOfUnary Negate = int
 
 -- operands of the types s and t are what the operator takes
 abbrev pub takes : Binary → ℕ → ℕ → Bool
-takes And s t = eqb s bool && eqb t bool
-takes Or s t = eqb s bool && eqb t bool
-takes Plus s t = eqb s int && eqb t int
-takes Minus s t = eqb s int && eqb t int
-takes Times s t = eqb s int && eqb t int
-takes Quotient s t = eqb s int && eqb t int
-takes Remainder s t = eqb s int && eqb t int
-takes Equal s t = eqb s t
-takes Less s t = eqb s int && eqb t int
-takes AtMost s t = eqb s int && eqb t int
+takes (logic o) s t = eqb s bool && eqb t bool
+takes (arithmetic o) s t = eqb s int && eqb t int
+takes (comparison Equal) s t = eqb s t
+takes (comparison Less) s t = eqb s int && eqb t int
+takes (comparison AtMost) s t = eqb s int && eqb t int
 
 -- result type of an operator of two operands
 abbrev pub typeOfBinary : Binary → ℕ
-typeOfBinary And = bool
-typeOfBinary Or = bool
-typeOfBinary Plus = int
-typeOfBinary Minus = int
-typeOfBinary Times = int
-typeOfBinary Quotient = int
-typeOfBinary Remainder = int
-typeOfBinary Equal = bool
-typeOfBinary Less = bool
-typeOfBinary AtMost = bool
+typeOfBinary (logic o) = bool
+typeOfBinary (arithmetic o) = int
+typeOfBinary (comparison o) = bool
 
 -- type(E); where E's own rule fails, the type that its operator would give
 unfoldable pub typeOfExp : Tables → Exp → ℕ
@@ -93,16 +80,6 @@ typedAct x (case e arms) = armsOfType x (typeOfExp x e) arms
 typedAct x (while e a) = eqb (typeOfExp x e) bool
 typedAct x (for v low high a) = eqb (typeOf x v) int
 
-abbrev pub typedAction : Tables → Action → Bool
-typedAction x (at r a) = typedAct x a
-
-abbrev pub typedAs : Tables → ℕ → Means → Bool
-typedAs x r (anExpression e) = typedExp x (expressionAt x r)
-typedAs x r (aPattern p) = typedPat x (patternAt x r)
-typedAs x r (anOffer o) = true
-typedAs x r (anAction a) = typedAction x (actionAt x r)
-typedAs x r (another k) = true
-
 -- 8: row r's rule, and the trailer's condition is bool
 unfoldable pub typed : Tables → ℕ → Bool
-typed x r = typedAs x r (meansAt x r) && (not (eqb r (x .condition)) || eqb (typeOfExp x (expressionAt x r)) bool)
+typed x r = ruleAt x (typedExp x) (typedPat x) (typedAct x) r && (not (eqb r (x .condition)) || eqb (typeOfExp x (expressionAt x r)) bool)

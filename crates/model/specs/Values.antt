@@ -1,9 +1,7 @@
 -- Values and their operations (01, "Values"), over h, half the number of int's values: 32,768 at 16 bits. Assumes nothing.
 use mathlib.Core.Bool.{Bool, true, false, not, cond, _&&_}
 use Prim.Native.Nat.{ℕ, zero, suc, _+_, _-_, _%_}
-use lib.Dec.{ltb, eqb}
-use lib.IntN.{ℤ, pos, negsuc, negℤ, _+ℤ_, _-ℤ_, _*ℤ_}
-use lib.Signed.{mag, nonNeg, quotZ, remZ}
+use lib.{Dec.ltb, Dec.eqb, IntN.ℤ, IntN.pos, IntN.negsuc, IntN.negℤ, IntN._+ℤ_, IntN._-ℤ_, IntN._*ℤ_, Signed.mag, Signed.nonNeg, Signed.quotZ, Signed.remZ}
 
 -- 16 bits
 abbrev pub half16 : ℕ
