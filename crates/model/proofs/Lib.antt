@@ -1,3 +1,6 @@
+pub mod Order
+pub mod Values
+pub mod Bytes
 pub mod Rows
 pub mod Decode
 pub mod Starred

@@ -3,11 +3,12 @@
 use mathlib.Core.{Path._≡_, List.List, List.[], List._∷_, List._++_}
 use Prim.Native.Nat.{ℕ, _+_, _*_}
 use lib.{IntN.ℤ, IntN.pos, IntN.negsuc, ListN.length, ListN.replicate}
-use Rattle.model.specs.declared.{State.State, Fields.Fields, Image.Image, Refusal.the-variants.Initialisation, Refusal.the-variants.Speech, Refusal.the-variants.Blocked, Refusal.the-variants.Undefined, Refusal.the-variants.BudgetSpent, Refusal.Refusal, Verdict.the-variants.Accepted, Verdict.the-variants.Refused, Stepped.the-variants.Moved, Stepped.the-variants.NotMoved}
-use Rattle.model.specs.Answers.{state, row}
+use Rattle.model.specs.declared.{State.State, Fields.Fields, Image.Image, Refusal.the-variants.Initialisation, Refusal.the-variants.Speech, Refusal.the-variants.Blocked, Refusal.the-variants.Undefined, Refusal.the-variants.ParameterValue, Refusal.the-variants.BudgetSpent, Refusal.Refusal, Verdict.the-variants.Accepted, Verdict.the-variants.Refused, Stepped.the-variants.Moved, Stepped.the-variants.NotMoved}
+use Rattle.model.specs.Answers.{state, variable, row}
 use Rattle.model.specs.Bytes.{bytesOf}
 use Rattle.model.specs.Image.{Entry, none, bool, int}
-use Rattle.model.specs.Calls.{check, Checked, step, StepDone}
+use Rattle.model.specs.Calls.{check, Checked, start, Started, step, StepDone}
+use Rattle.model.specs.Exports.{heading, listing}
 
 -- numbers as they stand in an image
 unfoldable pub halves : List ℕ → List ℕ
@@ -125,15 +126,19 @@ zeroRounds =
     (w 2 0 1 0 ∷ w 1 0 0 0 ∷ w 2 1 1 0 ∷ w 44 1 2 none ∷ w 49 3 0 0 ∷ w 59 1 4 0 ∷ w 53 1 0 0 ∷ w 54 5 6 0 ∷ w 1 1 0 0
     ∷ w 44 1 8 none ∷ w 49 9 0 0 ∷ w 53 1 0 0 ∷ w 54 10 11 0 ∷ [])
 
--- a call, its input, and what it gives with the lent words after it; or an image's length
+-- a call, its input, and what it gives with the lent words after it; an image's length; what the lister writes
 pub data Case : Type 0 where
   long : (image : List ℕ) (n : ℕ) → Case
+  lists : (image text : List ℕ) → Case
   checks : (image sets : List ℕ) → Checked → Case
+  starts : (image : List ℕ) (params store : List ℤ) → Started → Case
   steps : (image : List ℕ) (q : State) (store : List ℤ) (script : List ℕ) (budget : ℕ) (label : List ℤ) → StepDone → Case
 
 abbrev pub Right : Case → Type 0
 Right (long image n) = length image ≡ n
+Right (lists image text) = listing image ≡ text
 Right (checks image sets e) = check image sets ≡ e
+Right (starts image params store e) = start image params store ≡ e
 Right (steps image q store script budget label e) = step image q store script budget label ≡ e
 
 pub data AllRight : List Case → Type 0 where
@@ -167,6 +172,10 @@ unfoldable pub cases : List Case
 cases =
     long writer 282
     ∷ checks writer (7 ∷ 7 ∷ 7 ∷ 7 ∷ []) (accepted (2 ∷ 3 ∷ 3 ∷ 7 ∷ []))
+    -- what the lister writes for the table writer
+    ∷ lists writer (heading ++ (48 ∷ 32 ∷ 53 ∷ 32 ∷ 49 ∷ 10 ∷ 49 ∷ 32 ∷ 50 ∷ 57 ∷ 32 ∷ 50 ∷ 10 ∷ 50 ∷ 32 ∷ 51 ∷ 48 ∷ 32 ∷ 50 ∷ 10 ∷ []))
+    ∷ starts writer (pos 2 ∷ []) (pos 8 ∷ pos 8 ∷ []) (record { answer = Accepted; store = undefined ∷ pos 2 ∷ [] })
+    ∷ starts writer (pos 32768 ∷ []) (pos 8 ∷ pos 8 ∷ []) (record { answer = Refused (ParameterValue (variable 1)); store = pos 8 ∷ pos 8 ∷ [] })
     -- State 0 moves to 1, no communication, 3 units, no words
     ∷ steps writer (state 0) (undefined ∷ pos 2 ∷ []) [] 1000000 old (moves 1 3 (pos 0 ∷ pos 2 ∷ []) silent)
     -- State 1, i 5, q 2: label 1, 2, 5, 2; to 1; i 6; 6 units. Budget 5: 25 at row 19

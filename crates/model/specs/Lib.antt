@@ -15,5 +15,6 @@ pub mod Largest
 pub mod Speech
 pub mod Run
 pub mod Calls
+pub mod Exports
 pub mod Figure2
 pub mod Cases
