@@ -3,4 +3,5 @@ pub mod Values
 pub mod Bytes
 pub mod Rows
 pub mod Decode
+pub mod Passed
 pub mod Starred
