@@ -11,7 +11,7 @@ use Rattle.model.specs.Image.{Tables, none, fieldsOf}
 use Rattle.model.specs.Rows.{Kind, expression, pattern, action, branch, arm, isVariable, isConstant, isUnary, isBinary, isAny, isBind, isValue, isWhere, isEmit, isReceive, isNull, isAssign, isChoose, isReset, isCommunicate, isTo, isThen, isSelect, isCase, isWhile, isFor, Means, anExpression, aPattern, anOffer, anAction, another, kindOf, meansAt, isKind, nextOf, listUpTo}
 use Rattle.model.specs.Trees.{Exp, Pat, Action, at, Branches, Arms}
 use Rattle.model.specs.Decode.{growExpression, expressionBy, expressionAt, growPattern, patternBy, patternAt, listAt, branchesOf, armsOf, growAction, actionBy, actionAt}
-use Rattle.model.proofs.Rows.{Named, Row, Formed, row-of, row-is, kind-of, is-other, next-named}
+use Rattle.model.proofs.Rows.{Named, Row, Formed, row-of, row-is, kind-of, is-kind, next-named}
 
 module _ (x : Tables) (ok : Formed x) where
   same-expression : (f g : ℕ → Exp) (r : ℕ) (w : Fields) (m : Means) → Row x r w m → ((i : ℕ) → i < r → f i ≡ g i)
@@ -147,7 +147,7 @@ module _ (x : Tables) (ok : Formed x) where
   same-branches f g m [] no-more e = refl
   same-branches f g m (i ∷ l) (one-row p q) e =
       let b = p .below in
-      let c = row-is x ok i (another branch) (is-other x branch i tt (p .kind)) .a .below in
+      let c = row-is x ok i (another branch) (is-kind x branch i (p .kind)) .a .below in
       rw (e (fieldsOf x i .a) (omega arith), same-branches f g m l q e)
 
   same-arms : (f g : ℕ → Action) (m : ℕ) (l : List ℕ) → Listed m arm l → ((i : ℕ) → i < m → f i ≡ g i) → armsOf x f l ≡ armsOf x g l
@@ -155,7 +155,7 @@ module _ (x : Tables) (ok : Formed x) where
   same-arms f g m [] no-more e = refl
   same-arms f g m (i ∷ l) (one-row p q) e =
       let b = p .below in
-      let c = row-is x ok i (another arm) (is-other x arm i tt (p .kind)) .b .below in
+      let c = row-is x ok i (another arm) (is-kind x arm i (p .kind)) .b .below in
       rw (e (fieldsOf x i .b) (omega arith), same-arms f g m l q e)
 
   same-action : (f g : ℕ → Action) (r : ℕ) (w : Fields) (m : Means) → Row x r w m → ((i : ℕ) → i < r → f i ≡ g i)

@@ -8,7 +8,7 @@ use borrow.Author.Tests.{ltb-true, ltb-false, leb-true, eqb-true, eqb-false, not
 use Rattle.model.specs.declared.Fields.{Fields}
 use Rattle.model.specs.Limits.{limits}
 use Rattle.model.specs.Image.{Tables, none, fieldsOf}
-use Rattle.model.specs.Rows.{Kind, expression, pattern, offer, gets, ofType, item, range, action, branch, arm, unknown, Field, plain, one, oneOrNone, list, listOrNone, next, unused, variable, type, value, gate, state, literal, upper, isVariable, isConstant, isUnary, isBinary, isAny, isBind, isValue, isWhere, isEmit, isReceive, isNull, isAssign, isChoose, isReset, isCommunicate, isTo, isThen, isSelect, isCase, isWhile, isFor, Means, anExpression, aPattern, anOffer, anAction, another, kindOf, Shape, line, codes, lookup, shapeOf, meansAt, numberOfKind, sameKind, isKind, pickNext, nextOf, listUpTo, names, listFits, fieldFits, formed}
+use Rattle.model.specs.Rows.{Kind, expression, pattern, offer, gets, ofType, item, range, action, branch, arm, unknown, Field, plain, one, oneOrNone, list, listOrNone, next, unused, variable, type, value, gate, state, literal, upper, ExpressionRow, isVariable, isConstant, isUnary, isBinary, PatternRow, isAny, isBind, isValue, isWhere, OfferRow, isEmit, isReceive, ActionRow, isNull, isAssign, isChoose, isReset, isCommunicate, isTo, isThen, isSelect, isCase, isWhile, isFor, Means, anExpression, aPattern, anOffer, anAction, another, kindOf, Shape, line, codes, lookup, shapeOf, meansAt, numberOfKind, sameKind, isKind, pickNext, nextOf, listUpTo, names, listFits, fieldFits, formed}
 
 pub both-true : (a b : Bool) → (a && b) ≡ true → (a ≡ true) × (b ≡ true)
 both-true true b e = (refl, e)
@@ -219,29 +219,39 @@ kind-of x k r e =
     let j = kindOf (meansAt x r) in
     sym (kind-back j) ∙ ap kindOfNumber (eqb-true (numberOfKind j) (numberOfKind k) e) ∙ kind-back k
 
--- kinds whose rows have no meaning but the kind
-abbrev pub Other : Kind → Type 0
-Other expression = ⊥
-Other pattern = ⊥
-Other offer = ⊥
-Other gets = Unit
-Other ofType = Unit
-Other item = Unit
-Other range = Unit
-Other action = ⊥
-Other branch = Unit
-Other arm = Unit
-Other unknown = Unit
+-- what a row of a kind means
+abbrev pub Meaning : Kind → Means → Type 0
+Meaning expression m = (e : ExpressionRow) × (m ≡ anExpression e)
+Meaning pattern m = (e : PatternRow) × (m ≡ aPattern e)
+Meaning offer m = (e : OfferRow) × (m ≡ anOffer e)
+Meaning gets m = m ≡ another gets
+Meaning ofType m = m ≡ another ofType
+Meaning item m = m ≡ another item
+Meaning range m = m ≡ another range
+Meaning action m = (e : ActionRow) × (m ≡ anAction e)
+Meaning branch m = m ≡ another branch
+Meaning arm m = m ≡ another arm
+Meaning unknown m = m ≡ another unknown
 
-means-other : (m : Means) (k : Kind) → Other k → kindOf m ≡ k → m ≡ another k
-means-other (anExpression e) k o p = absurd (subst Other (sym p) o)
-means-other (aPattern e) k o p = absurd (subst Other (sym p) o)
-means-other (anOffer e) k o p = absurd (subst Other (sym p) o)
-means-other (anAction e) k o p = absurd (subst Other (sym p) o)
-means-other (another j) k o p = ap another p
+meaning : (m : Means) → Proper m → Meaning (kindOf m) m
+meaning (anExpression e) p = (e, refl)
+meaning (aPattern e) p = (e, refl)
+meaning (anOffer e) p = (e, refl)
+meaning (anAction e) p = (e, refl)
+meaning (another expression) p = absurd p
+meaning (another pattern) p = absurd p
+meaning (another offer) p = absurd p
+meaning (another gets) p = refl
+meaning (another ofType) p = refl
+meaning (another item) p = refl
+meaning (another range) p = refl
+meaning (another action) p = absurd p
+meaning (another branch) p = refl
+meaning (another arm) p = refl
+meaning (another unknown) p = refl
 
-pub is-other : (x : Tables) (k : Kind) (r : ℕ) → Other k → isKind x k r ≡ true → meansAt x r ≡ another k
-is-other x k r o e = means-other (meansAt x r) k o (kind-of x k r e)
+pub is-kind : (x : Tables) (k : Kind) (r : ℕ) → isKind x k r ≡ true → Meaning k (meansAt x r)
+is-kind x k r e = subst (λ (j : Kind). Meaning j (meansAt x r)) (kind-of x k r e) (meaning (meansAt x r) (lined (fieldsOf x r .code) .proper))
 
 -- the next row of a list is of its row's kind and below it, or none
 pick-says : (x : Tables) (r : ℕ) (w : Fields) (k : Kind) (f : Field) (n m : ℕ)
@@ -263,3 +273,17 @@ next-named x ok r =
     let q = row-of x ok r in
     pick-says x r w k (s .b) (w .b) (pickNext (s .c) (w .c) none) (subst (λ (f : Field). Says x r w k f (w .b)) (sym (l .b)) (q .b))
     (pick-says x r w k (s .c) (w .c) none (subst (λ (f : Field). Says x r w k f (w .c)) (sym (l .c)) (q .c)) (inl refl))
+
+out-of-rows : (x : Tables) (r : ℕ) → length (x .rows) ≤ r → kindOf (meansAt x r) ≡ unknown
+unfolding shapeOf lookup codes
+out-of-rows x r h =
+    subst (λ (w : Fields). kindOf (shapeOf (w .code) .means) ≡ unknown)
+    (sym (List·getD-eq-default (x .rows) (record { code = 0; a = 0; b = 0; c = 0 }) h)) refl
+
+-- a row of a known kind is a row of the table
+pub kind-in : (x : Tables) (k : Kind) (r : ℕ) → (k ≡ unknown → ⊥) → isKind x k r ≡ true → r < length (x .rows)
+kind-in x k r f e = go (ltb r (length (x .rows))) refl
+  where
+    go : (b : Bool) → ltb r (length (x .rows)) ≡ b → r < length (x .rows)
+    go true q = ltb-true _ _ q
+    go false q = absurd (f (sym (kind-of x k r e) ∙ out-of-rows x r (ltb-false _ _ q)))
