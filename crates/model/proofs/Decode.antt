@@ -2,14 +2,14 @@
 -- and no fuel. Assumes nothing.
 use mathlib.Core.{Path._≡_, Path.refl, Path.sym, Path.ap, Path._∙_, Path.subst, Logic._⊎_, Logic.inl, Logic.inr, Logic.⊎-elim}
 use mathlib.Core.{Bool.Bool, Bool.true, Bool.false, List.List, List.[], List._∷_}
-use Prim.Native.Nat.{ℕ, zero, suc, _≤_, _<_}
+use Prim.Native.Nat.{ℕ, zero, suc, _<_}
 use native.Mathlib.Omega.{arith}
 use lib.Dec.{eqb}
-use borrow.Author.Tests.{eq-eqb, ne-eqb}
+use borrow.Author.Tests.{ne-eqb}
 use Rattle.model.specs.declared.Fields.{Fields}
 use Rattle.model.specs.Image.{Tables, none, fieldsOf}
-use Rattle.model.specs.Rows.{Kind, expression, pattern, action, branch, arm, isVariable, isConstant, isUnary, isBinary, isAny, isBind, isValue, isWhere, isEmit, isReceive, isNull, isAssign, isChoose, isReset, isCommunicate, isTo, isThen, isSelect, isCase, isWhile, isFor, Means, anExpression, aPattern, anOffer, anAction, another, kindOf, meansAt, isKind, nextOf, listUpTo}
-use Rattle.model.specs.Trees.{Exp, Pat, Action, at, Branches, Arms}
+use Rattle.model.specs.Rows.{Kind, branch, arm, isVariable, isConstant, isUnary, isBinary, isAny, isBind, isValue, isWhere, isNull, isAssign, isChoose, isReset, isCommunicate, isTo, isThen, isSelect, isCase, isWhile, isFor, Means, anExpression, aPattern, anOffer, anAction, another, kindOf, meansAt, isKind, nextOf, listUpTo}
+use Rattle.model.specs.Trees.{Exp, Pat, Action, at}
 use Rattle.model.specs.Decode.{growExpression, expressionBy, expressionAt, growPattern, patternBy, patternAt, listAt, branchesOf, armsOf, growAction, actionBy, actionAt}
 use Rattle.model.proofs.Rows.{Named, Row, Formed, row-of, row-is, kind-of, is-kind, next-named}
 

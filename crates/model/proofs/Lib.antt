@@ -6,4 +6,3 @@ pub mod Rows
 pub mod Decode
 pub mod Passed
 pub mod Run
-pub mod Starred

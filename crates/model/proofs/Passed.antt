@@ -1,8 +1,8 @@
 -- What an image free of 1 to 9 has. Assumes nothing.
-use mathlib.Core.{Path._≡_, Bool.Bool, Bool.true, List.List}
+use mathlib.Core.{Path._≡_, Bool.true, List.List}
 use Prim.Native.Nat.{ℕ, _<_}
 use lib.ListN.{length, getD}
-use Rattle.model.specs.declared.{Verdict.the-variants.Accepted, Refusal.the-variants.ImageLength, Refusal.the-variants.MarkOrLength, Refusal.the-variants.Starts, Refusal.the-variants.Entries, Refusal.the-variants.Malformed, Refusal.the-variants.NoAction, Refusal.the-variants.NoCondition, Refusal.the-variants.NotNamedOnce, Refusal.the-variants.Typing, Refusal.the-variants.Binding}
+use Rattle.model.specs.declared.{Verdict.the-variants.Accepted, Refusal.the-variants.ImageLength, Refusal.the-variants.MarkOrLength, Refusal.the-variants.Starts, Refusal.the-variants.Entries, Refusal.the-variants.Malformed, Refusal.the-variants.NoAction, Refusal.the-variants.NoCondition, Refusal.the-variants.Typing}
 use Rattle.model.specs.Answers.{state, row, unless, each}
 use Rattle.model.specs.Image.{Tables, none, lengthFits, marked, trailerOf, startsFit, tablesOf, entriesRight}
 use Rattle.model.specs.Rows.{action, expression, isRoot, formed, namedOnce}

@@ -3,12 +3,12 @@ use mathlib.Core.{Path._≡_, Path.refl, Path.sym, Path.ap, Path._∙_, Path.sub
 use mathlib.Core.{Bool.Bool, Bool.true, Bool.false, Bool.not, Bool._&&_, Bool._||_, List.List, List.[], List._∷_}
 use Prim.Native.Nat.{ℕ, zero, suc, _≤_, _<_}
 use native.Mathlib.Omega.{arith}
-use lib.{Dec.eqb, Dec.ltb, Dec.leb, ListN.length, ListN.getD, ListN.List·getD-eq-default}
-use borrow.Author.Tests.{ltb-true, ltb-false, leb-true, eqb-true, eqb-false, not-true}
+use lib.{Dec.eqb, Dec.ltb, ListN.length, ListN.List·getD-eq-default}
+use borrow.Author.Tests.{ltb-true, ltb-false, leb-true, eqb-true}
 use Rattle.model.specs.declared.Fields.{Fields}
 use Rattle.model.specs.Limits.{limits}
 use Rattle.model.specs.Image.{Tables, none, fieldsOf}
-use Rattle.model.specs.Rows.{Kind, expression, pattern, offer, gets, ofType, item, range, action, branch, arm, unknown, Field, plain, one, oneOrNone, list, listOrNone, next, unused, variable, type, value, gate, state, literal, upper, ExpressionRow, isVariable, isConstant, isUnary, isBinary, PatternRow, isAny, isBind, isValue, isWhere, OfferRow, isEmit, isReceive, ActionRow, isNull, isAssign, isChoose, isReset, isCommunicate, isTo, isThen, isSelect, isCase, isWhile, isFor, Means, anExpression, aPattern, anOffer, anAction, another, kindOf, Shape, line, codes, lookup, shapeOf, meansAt, numberOfKind, sameKind, isKind, pickNext, nextOf, listUpTo, names, listFits, fieldFits, formed}
+use Rattle.model.specs.Rows.{Kind, expression, pattern, offer, gets, ofType, item, range, action, branch, arm, unknown, Field, plain, one, oneOrNone, list, listOrNone, next, unused, variable, type, value, gate, state, literal, upper, ExpressionRow, isVariable, isConstant, isUnary, isBinary, PatternRow, isAny, isBind, isValue, isWhere, OfferRow, isEmit, isReceive, ActionRow, isNull, isAssign, isChoose, isReset, isCommunicate, isTo, isThen, isSelect, isCase, isWhile, isFor, Means, anExpression, aPattern, anOffer, anAction, another, kindOf, Shape, codes, lookup, shapeOf, meansAt, numberOfKind, isKind, pickNext, nextOf, listUpTo, names, listFits, fieldFits, formed}
 
 pub both-true : (a b : Bool) → (a && b) ≡ true → (a ≡ true) × (b ≡ true)
 both-true true b e = (refl, e)

@@ -222,7 +222,7 @@ module _ (n : ℕ) (x : Tables) (script : List ℕ) where
   unfolding storing
   storing-few [] r m s h = h
   storing-few (i ∷ items) r m s h =
-      valued-rule Few (eval x (i .e) (s .store)) r s _ (λ z _. storing-few items r (store m (i .v) z) s h) (λ _. h)
+      valued-rule Few _ r s _ (λ z _. storing-few items r (store m (i .v) z) s h) (λ _. h)
 
   choosing-few : (items : List OfType) (e : Exp) (r : ℕ) (s : St) → s .left ≤ n → Few (choosing x items e script r s)
   unfolding choosing
@@ -277,7 +277,7 @@ module _ (n : ℕ) (x : Tables) (script : List ℕ) where
     few-arms : (arms : Arms) (z : ℤ) (r : ℕ) (s : St) → s .left ≤ n → Few (execArms x arms z script r s)
     few-arms noArm z r s h = h
     few-arms (arm p a rest) z r s h =
-        match-rule Few (match x p z (s .store)) _ _ _ (λ m _. few a (stored m s) h) (λ _. few-arms rest z r s h) (λ _. h)
+        match-rule Few (match x p z (s .store)) _ _ _ (λ m _. few a (stored m s) h) (λ _. few-arms rest z r _ h) (λ _. h)
 
 pub exec-left : (x : Tables) (a : Action) (script : List ℕ) (s : St) → exec x a script s .st .left ≤ s .left
 exec-left x a script s = few (s .left) x script a s (le-refl (s .left))
@@ -325,14 +325,15 @@ looping-alike x e b c t h (suc n) s =
     rw (looping-step x e b t n s, looping-step x e c t n s) (tested-alike (test x e (s .store)) t s _ _ (gives Ends s)
     (then-alike _ _ (h s) (λ u. charge-alike t u _ _ (looping-alike x e b c t h n))))
 
+valued-alike : {r : ℕ} {k l : ℤ → Res} (y : Value) (s : St) → ((z : ℤ) → Alike r (k z) (l z)) → Alike r (valued y r s k) (valued y none s l)
+unfolding valued
+valued-alike (Is z) s h = h z
+valued-alike Unknown s h = unlike
+
 storing-alike : (x : Tables) (items : List Gets) (r : ℕ) (m : List ℤ) (s : St) → Alike r (storing x items r m s) (storing x items none m s)
-unfolding storing valued
+unfolding storing
 storing-alike x [] r m s = alike
-storing-alike x (i ∷ items) r m s = go (eval x (i .e) (s .store)) (λ z. storing-alike x items r (store m (i .v) z) s)
-  where
-    go : {k l : ℤ → Res} (y : Value) → ((z : ℤ) → Alike r (k z) (l z)) → Alike r (valued y r s k) (valued y none s l)
-    go (Is z) h = h z
-    go Unknown h = unlike
+storing-alike x (i ∷ items) r m s = valued-alike _ s (λ z. storing-alike x items r (store m (i .v) z) s)
 
 module _ (x : Tables) (r : ℕ) (v : Variable) (low high : ℤ) (a : Action) (script : List ℕ) (s : St) where
   abbrev first : St → St

@@ -69,7 +69,7 @@ module _ (h : ℕ) (p : 0 < h) where
 
   pub quotient-in : (a b : ℤ) → mag (quotient h a b) < h
   unfolding quotient
-  quotient-in a b = cond-in h (isZero b) (pos 0) (wrap h (quotZ a b)) p (wrap-in (quotZ a b))
+  quotient-in a b = cond-in h (isZero b) (pos 0) (wrap h _) p (wrap-in _)
 
   -- the least int by -1, at every width
   pub least-by-minus-one : (quotient h (negsuc (h - 1)) (negsuc 0) ≡ negsuc (h - 1)) × (remainder (negsuc (h - 1)) (negsuc 0) ≡ pos 0)

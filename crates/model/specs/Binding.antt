@@ -1,11 +1,22 @@
 -- Binding (report, A.1; 01, "The checker's rules"; refusal 9): use and def, and the rule of each row. Assumes nothing.
-use mathlib.Core.{Bool.Bool, Bool.true, Bool.false, Bool.not, Bool._&&_, Bool._||_, List.List, List.[], List._∷_, List.map}
+use mathlib.Core.{Bool.Bool, Bool.true, Bool.not, Bool._&&_, Bool._||_, List.List, List.[], List._∷_, List.map}
 use Prim.Native.Nat.{ℕ, _+_, _*_}
 use lib.Dec.{eqb}
-use Rattle.model.specs.Masks.{bit, meet, join, without, union, inside, apart}
+use Rattle.model.specs.declared.Variable.{Variable}
+use Rattle.model.specs.Masks.{bit, join, without, union, inside, apart}
 use Rattle.model.specs.Image.{Tables, Entry}
-use Rattle.model.specs.Trees.{Exp, var, const, unary, binary, Pat, any, bind, equals, guarded, Offer, emit, receive, Action, at, Act, null, assign, choose, reset, communicate, to, then, select, case, while, for, Branches, noBranch, branch, Arms, noArm, arm}
+use Rattle.model.specs.Trees.{Exp, var, const, unary, binary, Pat, any, bind, equals, guarded, Offer, emit, receive, Gets, OfType, Action, at, Act, null, assign, choose, reset, communicate, to, then, select, case, while, for, Branches, noBranch, branch, Arms, noArm, arm}
 use Rattle.model.specs.Decode.{expressionAt, ruleAt}
+
+-- the variables of items
+abbrev pub assigned : List Gets → ℕ
+assigned items = union (map (λ i. bit (i .v .0)) items)
+
+abbrev pub chosen : List OfType → ℕ
+chosen items = union (map (λ i. bit (i .v .0)) items)
+
+abbrev pub dropped : List Variable → ℕ
+dropped vs = union (map (λ v. bit (v .0)) vs)
 
 -- use(E)
 unfoldable pub useOfExp : Exp → ℕ
@@ -60,9 +71,9 @@ unfoldable mutual
 
   pub touchesAct : Act → ℕ
   touchesAct null = 0
-  touchesAct (assign items) = union (map (λ i. bit (i .v .0)) items)
-  touchesAct (choose items e) = union (map (λ i. bit (i .v .0)) items)
-  touchesAct (reset vs) = union (map (λ v. bit (v .0)) vs)
+  touchesAct (assign items) = assigned items
+  touchesAct (choose items e) = chosen items
+  touchesAct (reset vs) = dropped vs
   touchesAct (communicate g os) = defOfOffers os
   touchesAct (to q) = 0
   touchesAct (then a b) = join (touches a) (touches b)

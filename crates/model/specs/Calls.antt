@@ -1,20 +1,20 @@
 -- The three calls (01, "What we are building", "Numbers given instead"): for every input the answer and every lent word
 -- afterwards. Assumes nothing.
-use mathlib.Core.{Bool.Bool, Bool.true, Bool.false, Bool.not, Bool._&&_, Bool._||_, List.List, List.[], List._∷_, List._++_}
-use Prim.Native.Nat.{ℕ, zero, suc, _+_, _-_}
-use lib.{Dec.eqb, Dec.leb, Dec.ltb, IntN.ℤ, IntN.pos, ListN.length, ListN.getD, ListN.drop}
-use Rattle.model.specs.declared.{State.State, Move.Move, Tested.the-variants.Holds, Tested.the-variants.Fails, Tested.the-variants.Unsure, Refusal.Refusal, Refusal.the-variants.ImageLength, Refusal.the-variants.MarkOrLength, Refusal.the-variants.Starts, Refusal.the-variants.Entries, Refusal.the-variants.Malformed, Refusal.the-variants.NoAction, Refusal.the-variants.NoCondition, Refusal.the-variants.NotNamedOnce, Refusal.the-variants.Typing, Refusal.the-variants.Binding, Refusal.the-variants.SetsShort, Refusal.the-variants.Initialisation, Refusal.the-variants.Speech, Refusal.the-variants.StoreLength, Refusal.the-variants.ParameterCount, Refusal.the-variants.ParameterValue, Refusal.the-variants.ConditionFalse, Refusal.the-variants.NoState, Refusal.the-variants.SlotValue, Refusal.the-variants.LabelShort, Refusal.the-variants.BudgetOver, Verdict.Verdict, Verdict.the-variants.Accepted, Verdict.the-variants.Refused, Stepped.Stepped, Stepped.the-variants.Moved, Stepped.the-variants.NotMoved, Outcome.the-variants.Ends, Outcome.the-variants.Jumps, Outcome.the-variants.Stops}
+use mathlib.Core.{Bool.Bool, Bool.true, Bool.false, Bool.not, Bool._||_, List.List, List.[], List._∷_, List._++_}
+use Prim.Native.Nat.{ℕ, _+_, _-_}
+use lib.{Dec.eqb, Dec.leb, Dec.ltb, IntN.ℤ, ListN.length, ListN.getD, ListN.drop}
+use Rattle.model.specs.declared.{State.State, Tested.the-variants.Holds, Tested.the-variants.Fails, Tested.the-variants.Unsure, Refusal.Refusal, Refusal.the-variants.ImageLength, Refusal.the-variants.MarkOrLength, Refusal.the-variants.Starts, Refusal.the-variants.Entries, Refusal.the-variants.Malformed, Refusal.the-variants.NoAction, Refusal.the-variants.NoCondition, Refusal.the-variants.NotNamedOnce, Refusal.the-variants.Typing, Refusal.the-variants.Binding, Refusal.the-variants.SetsShort, Refusal.the-variants.Initialisation, Refusal.the-variants.Speech, Refusal.the-variants.StoreLength, Refusal.the-variants.ParameterCount, Refusal.the-variants.ParameterValue, Refusal.the-variants.ConditionFalse, Refusal.the-variants.NoState, Refusal.the-variants.SlotValue, Refusal.the-variants.LabelShort, Refusal.the-variants.BudgetOver, Verdict.Verdict, Verdict.the-variants.Accepted, Verdict.the-variants.Refused, Stepped.Stepped, Stepped.the-variants.Moved, Stepped.the-variants.NotMoved, Outcome.the-variants.Ends, Outcome.the-variants.Jumps, Outcome.the-variants.Stops}
 use Rattle.model.specs.Limits.{limits}
 use Rattle.model.specs.Answers.{state, variable, row, after, unless, each}
 use Rattle.model.specs.Values.{mark, same, ofSize}
-use Rattle.model.specs.Image.{Tables, Entry, none, bool, lengthFits, marked, trailerOf, startsFit, tablesOf, entriesRight, sizeOf, typeOf}
+use Rattle.model.specs.Image.{Tables, Entry, none, lengthFits, marked, trailerOf, startsFit, tablesOf, entriesRight, sizeOf, entryOf, typeOf}
 use Rattle.model.specs.Rows.{action, expression, formed, isRoot, namedOnce}
 use Rattle.model.specs.Decode.{act, initial}
 use Rattle.model.specs.Typing.{typed}
 use Rattle.model.specs.Binding.{bound}
 use Rattle.model.specs.Largest.{reachedOf, setsOf, initialised}
 use Rattle.model.specs.Speech.{wellSpoken}
-use Rattle.model.specs.Run.{ε, labelWords, St, Res, blockedAt, test, exec}
+use Rattle.model.specs.Run.{slot, ε, labelWords, Res, blockedAt, test, exec}
 
 -- 5 to 7: the rows
 unfoldable pub rowsVerdict : Tables → Verdict
@@ -83,11 +83,12 @@ started x params = startStore (x .half) (x .variables) params
 
 -- a slot's content is a value of its variable's type
 unfoldable pub slotOfType : Tables → List ℤ → ℕ → Bool
-slotOfType x m v = ofSize (x .half) (sizeOf x (typeOf x (variable v))) (getD m v (mark (x .half)))
+slotOfType x m v = ofSize (x .half) (sizeOf x (typeOf x (variable v))) (slot x m (variable v))
 
 abbrev pub isParameter : Tables → ℕ → Bool
-isParameter x v = eqb (getD (x .variables) v (record { type = 0; parameter = 0 }) .parameter) 1
+isParameter x v = eqb (entryOf x (variable v) .parameter) 1
 
+-- the initial condition reads parameters only (9), so Unsure is never met
 abbrev pub holds : Tables → List ℤ → Bool
 holds x m = elim (test x (initial x) m) [ Holds ↦ true | Fails ↦ false | Unsure ↦ false ]
 
@@ -116,7 +117,7 @@ start s params store = startedAs (startVerdict s params store) (started (tablesO
 
 -- 18: a slot is undefined or of its type
 unfoldable pub slotFits : Tables → List ℤ → ℕ → Bool
-slotFits x m v = same (getD m v (mark (x .half))) (mark (x .half)) || slotOfType x m v
+slotFits x m v = same (slot x m (variable v)) (mark (x .half)) || slotOfType x m v
 
 -- "Step: 1–9, 17, 13, 18, 19, 20, then the run"
 unfoldable pub stepVerdict : List ℕ → State → List ℤ → ℕ → List ℤ → Verdict

@@ -71,12 +71,12 @@ cut =
     encode (2 ∷ 0 ∷ []) (plain int ∷ given int ∷ []) (5 ∷ 24 ∷ 25 ∷ [])
     (writing ++ (w 58 22 21 none ∷ w 56 8 23 0 ∷ w 55 none 0 0 ∷ [])) (trailer 0 4 12 18 3 0 242)
 
--- state 1 as "communicate on gate 1; case i <= 127 is true -> to 1 end"
+-- the table writer with state 1 as "communicate on gate 1; case i <= 127 is true -> to 1 end"
 unfoldable pub forgotten : List ℕ
 forgotten =
-    small (plain int ∷ given int ∷ []) (5 ∷ 14 ∷ [])
+    small (plain int ∷ given int ∷ []) (5 ∷ 14 ∷ 15 ∷ [])
     (w 2 0 1 0 ∷ w 2 1 0 0 ∷ w 44 0 1 none ∷ w 49 2 0 0 ∷ w 53 1 0 0 ∷ w 54 3 4 0 ∷ w 52 1 none 0 ∷ w 1 0 0 0 ∷ w 2 1 127 0
-    ∷ w 27 7 8 0 ∷ w 34 0 1 0 ∷ w 53 1 0 0 ∷ w 58 10 11 none ∷ w 56 9 12 0 ∷ w 54 6 13 0 ∷ [])
+    ∷ w 27 7 8 0 ∷ w 34 0 1 0 ∷ w 53 1 0 0 ∷ w 58 10 11 none ∷ w 56 9 12 0 ∷ w 54 6 13 0 ∷ w 55 none 0 0 ∷ [])
 
 -- "to 0; i := v", v never set
 unfoldable pub dead : List ℕ
@@ -95,9 +95,11 @@ sums =
     (w 2 0 1 0 ∷ w 2 1 0x7FFF 0 ∷ w 2 1 1 0 ∷ w 20 1 2 0 ∷ w 2 1 0xFFF9 0 ∷ w 2 1 2 0 ∷ w 23 4 5 0 ∷ w 2 1 0xFFF9 0 ∷ w 2 1 2 0
     ∷ w 24 7 8 0 ∷ w 44 2 9 none ∷ w 44 1 6 10 ∷ w 44 0 3 11 ∷ w 49 12 0 0 ∷ w 53 0 0 0 ∷ w 54 13 14 0 ∷ [])
 
--- for i in 3..2 do communicate on gate 1 end; to 0
+-- for i in 3..2 do communicate on gate 1; to 0 end; to 0
 unfoldable pub unentered : List ℕ
-unentered = small (plain int ∷ []) (5 ∷ []) (w 2 0 1 0 ∷ w 47 0 3 2 ∷ w 52 1 none 0 ∷ w 60 1 2 0 ∷ w 53 0 0 0 ∷ w 54 3 4 0 ∷ [])
+unentered =
+    small (plain int ∷ []) (7 ∷ [])
+    (w 2 0 1 0 ∷ w 47 0 3 2 ∷ w 52 1 none 0 ∷ w 53 0 0 0 ∷ w 54 2 3 0 ∷ w 60 1 4 0 ∷ w 53 0 0 0 ∷ w 54 5 6 0 ∷ [])
 
 -- case i is j where j = 99 -> to 0 | any int -> communicate on gate 1 !j; to 0 end
 unfoldable pub threading : List ℕ
@@ -119,9 +121,23 @@ guardedArm =
     (w 2 0 1 0 ∷ w 52 1 none 0 ∷ w 1 0 0 0 ∷ w 32 0 0 0 ∷ w 2 0 1 0 ∷ w 35 3 4 0 ∷ w 53 0 0 0 ∷ w 58 5 6 none ∷ w 56 2 7 0
     ∷ w 54 1 8 0 ∷ [])
 
--- while b do y := 1 end; to 1; and state 1: y := y; to 1
+-- communicate on gate 1; case b is true where true -> to 0 | false -> to 0 end
+unfoldable pub guardedConstant : List ℕ
+guardedConstant =
+    small (given bool ∷ []) (12 ∷ [])
+    (w 2 0 1 0 ∷ w 52 1 none 0 ∷ w 1 0 0 0 ∷ w 34 0 1 0 ∷ w 2 0 1 0 ∷ w 35 3 4 0 ∷ w 53 0 0 0 ∷ w 34 0 0 0 ∷ w 53 0 0 0
+    ∷ w 58 7 8 none ∷ w 58 5 6 9 ∷ w 56 2 10 0 ∷ w 54 1 11 0 ∷ [])
+
+-- while b do reset x; y := 1 end; to 1; and state 1: y := y; to 1
 unfoldable pub zeroRounds : List ℕ
 zeroRounds =
+    small (given bool ∷ given int ∷ plain int ∷ []) (10 ∷ 15 ∷ [])
+    (w 2 0 1 0 ∷ w 1 0 0 0 ∷ w 46 1 none 0 ∷ w 51 2 0 0 ∷ w 2 1 1 0 ∷ w 44 2 4 none ∷ w 49 5 0 0 ∷ w 54 3 6 0 ∷ w 59 1 7 0
+    ∷ w 53 1 0 0 ∷ w 54 8 9 0 ∷ w 1 2 0 0 ∷ w 44 2 11 none ∷ w 49 12 0 0 ∷ w 53 1 0 0 ∷ w 54 13 14 0 ∷ [])
+
+-- while b do y := 1 end; to 1; and state 1: y := y; to 1
+unfoldable pub keeping : List ℕ
+keeping =
     small (given bool ∷ plain int ∷ []) (7 ∷ 12 ∷ [])
     (w 2 0 1 0 ∷ w 1 0 0 0 ∷ w 2 1 1 0 ∷ w 44 1 2 none ∷ w 49 3 0 0 ∷ w 59 1 4 0 ∷ w 53 1 0 0 ∷ w 54 5 6 0 ∷ w 1 1 0 0
     ∷ w 44 1 8 none ∷ w 49 9 0 0 ∷ w 53 1 0 0 ∷ w 54 10 11 0 ∷ [])
@@ -195,7 +211,7 @@ cases =
     ∷ checks cut (7 ∷ 7 ∷ 7 ∷ []) (accepted (2 ∷ 3 ∷ 3 ∷ []))
     ∷ steps cut (state 1) (pos 128 ∷ pos 2 ∷ []) [] 1000000 old (stays (Blocked (row 24)) (pos 128 ∷ pos 2 ∷ []))
     -- State 1 as "communicate on gate 1; case i <= 127 is true -> to 1 end": 12 at state 1
-    ∷ checks forgotten (7 ∷ 7 ∷ []) (refused (Speech (state 1)) (7 ∷ 7 ∷ []))
+    ∷ checks forgotten (7 ∷ 7 ∷ 7 ∷ []) (refused (Speech (state 1)) (7 ∷ 7 ∷ 7 ∷ []))
     -- "to 0; i := v", v never set: accepted
     ∷ checks dead (7 ∷ []) (accepted (0 ∷ []))
     -- "while true do reset i end", i a parameter: 11
@@ -204,6 +220,7 @@ cases =
     ∷ steps sums (state 0) (undefined ∷ undefined ∷ undefined ∷ []) [] 1000000 old
     (moves 0 3 (negsuc 32767 ∷ negsuc 2 ∷ negsuc 0 ∷ []) silent)
     -- for i in 3..2: body not run, i is 3
+    ∷ checks unentered (7 ∷ []) (accepted (0 ∷ []))
     ∷ steps unentered (state 0) (undefined ∷ []) [] 1000000 old (moves 0 3 (pos 3 ∷ []) silent)
     -- Tempting 1: the failed pattern's j is not kept for the next arm
     ∷ steps threading (state 0) (pos 5 ∷ pos 7 ∷ []) [] 1000000 old
@@ -212,6 +229,9 @@ cases =
     ∷ steps exchanging (state 0) (pos 5 ∷ pos 7 ∷ []) [] 1000000 old (moves 0 3 (pos 7 ∷ pos 5 ∷ []) silent)
     -- Tempting 3: a guarded arm doesn't count toward exhaustiveness
     ∷ checks guardedArm (7 ∷ []) (refused (Speech (state 0)) (7 ∷ []))
-    -- Tempting 4: after zero rounds the body's variables are not set
-    ∷ checks zeroRounds (7 ∷ 7 ∷ []) (refused (Initialisation (state 1)) (7 ∷ 7 ∷ []))
+    ∷ checks guardedConstant (7 ∷ []) (refused (Speech (state 0)) (7 ∷ []))
+    -- Tempting 4: Figure 7 as printed goes on with the body's y, which zero rounds don't set, and accepts
+    ∷ checks zeroRounds (7 ∷ 7 ∷ []) (refused (Initialisation (state 0)) (7 ∷ 7 ∷ []))
+    -- a loop keeps its entering set, so y isn't set at state 1
+    ∷ checks keeping (7 ∷ 7 ∷ []) (refused (Initialisation (state 1)) (7 ∷ 7 ∷ []))
     ∷ []

@@ -1,5 +1,5 @@
 -- The trees that rows say (01, "The image"). Rows name only lower rows, so the row's number is fuel enough. A row of another
--- kind, which 5 and 6 shut out, reads as the constant false, as any bool or as null. Assumes nothing.
+-- kind, which 5 and 6 shut out, reads as the constant false, any bool, an emission or null. Assumes nothing.
 use mathlib.Core.{Bool.Bool, Bool.true, Bool.false, Bool.cond, List.List, List.[], List._∷_, List.map}
 use Prim.Native.Nat.{ℕ, zero, suc}
 use lib.{Dec.eqb, IntN.ℤ, IntN.pos, ListN.getD}
@@ -8,7 +8,7 @@ use Rattle.model.specs.Answers.{state, variable, gate}
 use Rattle.model.specs.Bytes.{signed}
 use Rattle.model.specs.Values.{half16}
 use Rattle.model.specs.Image.{Tables, none, bool, int, fieldsOf}
-use Rattle.model.specs.Rows.{Kind, ExpressionRow, isVariable, isConstant, isUnary, isBinary, PatternRow, isAny, isBind, isValue, isWhere, OfferRow, isEmit, isReceive, ActionRow, isNull, isAssign, isChoose, isReset, isCommunicate, isTo, isThen, isSelect, isCase, isWhile, isFor, Means, anExpression, aPattern, anOffer, anAction, another, meansAt, nextOf, listUpTo}
+use Rattle.model.specs.Rows.{isVariable, isConstant, isUnary, isBinary, isAny, isBind, isValue, isWhere, isEmit, isReceive, isNull, isAssign, isChoose, isReset, isCommunicate, isTo, isThen, isSelect, isCase, isWhile, isFor, Means, anExpression, aPattern, anOffer, anAction, another, meansAt, listUpTo}
 use Rattle.model.specs.Trees.{Exp, var, const, unary, binary, Pat, any, bind, equals, guarded, Offer, emit, receive, Gets, OfType, Action, at, Act, null, assign, choose, reset, communicate, to, then, select, case, while, for, Branches, noBranch, branch, Arms, noArm, arm}
 
 -- "constant of type a, value b (int: two's complement)"

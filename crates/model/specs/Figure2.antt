@@ -6,7 +6,7 @@ use lib.{Dec.eqb, IntN.ℤ, IntN.pos}
 use Rattle.model.specs.declared.{State.State, Variable.Variable, Gate.Gate, Value.the-variants.Is, Value.the-variants.Unknown, Tested.the-variants.Holds, Tested.the-variants.Fails, Tested.the-variants.Unsure}
 use Rattle.model.specs.Values.{same, ofSize}
 use Rattle.model.specs.Image.{Tables, none, sizeOf}
-use Rattle.model.specs.Trees.{Exp, Pat, any, bind, equals, guarded, Offer, emit, receive, Gets, OfType, Action, at, Act, null, assign, choose, reset, communicate, to, then, select, case, while, for, Branches, noBranch, branch, Arms, noArm, arm}
+use Rattle.model.specs.Trees.{Exp, Pat, any, bind, equals, guarded, Offer, emit, receive, Gets, OfType, Action, at, null, assign, choose, reset, communicate, to, then, select, case, while, for, Branches, branch, Arms, arm}
 use Rattle.model.specs.Typing.{typeOfPat}
 use Rattle.model.specs.Run.{store, eval, test, failed, match, Label, ε, on, resetting, toLow, atMostHigh, onward}
 

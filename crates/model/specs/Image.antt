@@ -1,6 +1,6 @@
 -- The image: its trailer and its tables (01, "The image"; refusals 1 to 4). Assumes nothing.
 use mathlib.Core.{Bool.Bool, Bool.true, Bool.false, Bool._&&_, List.List, List.[], List._∷_}
-use Prim.Native.Nat.{ℕ, zero, suc, _+_, _-_, _*_, _/_, _%_}
+use Prim.Native.Nat.{ℕ, _+_, _-_, _*_, _/_, _%_}
 use lib.{Dec.eqb, Dec.leb, Dec.ltb, ListN.length, ListN.getD}
 use Rattle.model.specs.declared.{Image.Image, Fields.Fields, Variable.Variable}
 use Rattle.model.specs.Limits.{limits}
@@ -61,7 +61,7 @@ unfoldable pub marked : List ℕ → Bool
 marked s =
     eqb (getD s (length s - 2) 0) 0x4E && (eqb (getD s (length s - 1) 0) 0x54 && eqb (trailerOf s .length) (length s))
 
--- a table of entries of a size: it starts before it ends, holds whole entries, and their number is inside its limits
+-- a table of entries of a size: it doesn't end before it starts, holds whole entries, and their number is inside its limits
 unfoldable pub tableFits : ℕ → ℕ → ℕ → ℕ → ℕ → Bool
 tableFits start «end» size least most =
     leb start «end» && (eqb ((«end» - start) % size) 0 && between least ((«end» - start) / size) most)
@@ -71,10 +71,10 @@ unfoldable pub startsFit : Image → Bool
 startsFit i =
     eqb (i .types) 0
     && (tableFits (i .types) (i .variables) 2 (limits .«types_least») (limits .types)
-    && (tableFits (i .variables) (i .states) 4 0 (limits .variables)
-    && (tableFits (i .states) (i .rows) 2 1 (limits .states)
+    && (tableFits (i .variables) (i .states) 4 (limits .«variables_least») (limits .variables)
+    && (tableFits (i .states) (i .rows) 2 (limits .«states_least») (limits .states)
     && (tableFits (i .rows) (rowsEnd i) 8 (limits .«rows_least») (limits .rows)
-    && between 1 (i .gates) (limits .gates)))))
+    && between (limits .«gates_least») (i .gates) (limits .gates)))))
 
 -- a variable's entry: its type, and 1 for a parameter
 pub record Entry : Type 0 where
@@ -115,18 +115,21 @@ tablesOf s =
 abbrev pub sizeOf : Tables → ℕ → ℕ
 sizeOf x t = getD (x .sizes) t 0
 
--- a variable's type
-abbrev pub typeOf : Tables → Variable → ℕ
-typeOf x v = getD (x .variables) (v .0) (record { type = 0; parameter = 0 }) .type
+-- a variable's entry and its type
+abbrev pub entryOf : Tables → Variable → Entry
+entryOf x v = getD (x .variables) (v .0) (record { type = 0; parameter = 0 })
 
--- the fields of row r; no row has code 0
+abbrev pub typeOf : Tables → Variable → ℕ
+typeOf x v = entryOf x v .type
+
+-- the fields of row r; past the table they are 0, which is no code
 abbrev pub fieldsOf : Tables → ℕ → Fields
 fieldsOf x r = getD (x .rows) r (record { code = 0; a = 0; b = 0; c = 0 })
 
 -- other types have 1 to 4,096 values
 unfoldable pub othersFit : List ℕ → Bool
 othersFit [] = true
-othersFit (k ∷ ks) = between 1 k (limits .values) && othersFit ks
+othersFit (k ∷ ks) = between (limits .«values_least») k (limits .values) && othersFit ks
 
 -- type 0 has 2 values, type 1 has 0
 unfoldable pub sizesFit : List ℕ → Bool

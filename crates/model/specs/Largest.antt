@@ -1,8 +1,8 @@
 -- Initialisation, the whole automaton (report, Figure 8; 01: "the largest that fit"; refusal 11): what the sets are, and how
 -- they are found. Assumes nothing.
-use mathlib.Core.{Path._≡_, Bool.Bool, Bool.true, Bool.false, Bool.not, Bool.cond, Bool._&&_, Bool._||_, List.List, List.[], List._∷_}
-use Prim.Native.Nat.{ℕ, zero, suc, _+_, _≤_, _<_}
-use lib.{Dec.T, Dec.eqb, ListN.length, ListN.getD}
+use mathlib.Core.{Bool.Bool, Bool.true, Bool.false, Bool.not, Bool.cond, Bool._&&_, Bool._||_, List.List, List.[], List._∷_}
+use Prim.Native.Nat.{ℕ, zero, suc, _+_, _≤_}
+use lib.{Dec.eqb, ListN.length, ListN.getD}
 use Rattle.model.specs.Lists.{table}
 use Rattle.model.specs.Masks.{digit, Has, has, bit, full, meet, join}
 use Rattle.model.specs.Image.{Tables}
@@ -82,4 +82,4 @@ setsOf x = let r = reachedOf x in settle alike (round x r) (suc (sum (begun x)))
 
 -- 11: "Errors are judged with the finished sets", at the states reached
 unfoldable pub initialised : Tables → ℕ → List ℕ → ℕ → Bool
-initialised x reached sets s = not (has reached s) || fine (topOf x) (getD sets s 0) (act x s)
+initialised x reached sets s = not (has reached s) || fine (topOf x) (getD sets s (topOf x)) (act x s)

@@ -18,3 +18,4 @@ pub mod Calls
 pub mod Exports
 pub mod Figure2
 pub mod Cases
+pub mod Starred

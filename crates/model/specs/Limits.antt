@@ -1,5 +1,4 @@
 -- The fixed limits (01, "The image"). Assumes nothing.
-use Prim.Native.Nat.{ℕ}
 use Rattle.model.specs.declared.Bounds.{Bounds}
 
 abbrev pub limits : Bounds
@@ -7,9 +6,13 @@ limits =
     record {
       «types_least» = 2;
       types = 16;
+      «values_least» = 1;
       values = 4096;
+      «variables_least» = 0;
       variables = 64;
+      «states_least» = 1;
       states = 64;
+      «gates_least» = 1;
       gates = 64;
       «rows_least» = 2;
       rows = 2048;

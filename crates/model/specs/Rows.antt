@@ -1,8 +1,8 @@
 -- The table of codes (01, "The image"): what each row is and what its fields name, and the refusals 5, 6 and 7 that read
 -- it. Assumes nothing.
 use mathlib.Core.{Bool.Bool, Bool.true, Bool.false, Bool.not, Bool._&&_, Bool._||_, List.List, List.[], List._∷_, List._++_}
-use Prim.Native.Nat.{ℕ, zero, suc, _+_}
-use lib.{Dec.eqb, Dec.leb, Dec.ltb, ListN.length, ListN.getD}
+use Prim.Native.Nat.{ℕ, zero, suc}
+use lib.{Dec.eqb, Dec.leb, Dec.ltb, ListN.length}
 use Rattle.model.specs.declared.Fields.{Fields}
 use Rattle.model.specs.Limits.{limits}
 use Rattle.model.specs.Image.{Tables, none, int, sizeOf, fieldsOf}

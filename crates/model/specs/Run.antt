@@ -3,11 +3,12 @@
 use mathlib.Core.{Bool.Bool, Bool.true, Bool.false, Bool.not, Bool.cond, Bool._&&_, Bool._||_, List.List, List.[], List._∷_, List._++_}
 use Prim.Native.Nat.{ℕ, zero, suc, _+_, _-_, _/_}
 use lib.{Dec.eqb, Dec.ltb, IntN.ℤ, IntN.pos, IntN.negsuc, ListN.length, ListN.getD, ListN.set, ListN.replicate, Signed.ltZ, Signed.leZ}
-use Rattle.model.specs.declared.{Gate.Gate, State.State, Variable.Variable, Value.Value, Value.the-variants.Is, Value.the-variants.Unknown, Tested.Tested, Tested.the-variants.Holds, Tested.the-variants.Fails, Tested.the-variants.Unsure, Refusal.Refusal, Refusal.the-variants.Blocked, Refusal.the-variants.Undefined, Refusal.the-variants.ScriptEnded, Refusal.the-variants.WordOutOfRange, Refusal.the-variants.BudgetSpent, Refusal.the-variants.BlockedSpoken, Refusal.the-variants.SecondCommunication, Outcome.Outcome, Outcome.the-variants.Ends, Outcome.the-variants.Jumps, Outcome.the-variants.Stops}
+use Rattle.model.specs.declared.{Gate.Gate, Variable.Variable, Value.Value, Value.the-variants.Is, Value.the-variants.Unknown, Tested.Tested, Tested.the-variants.Holds, Tested.the-variants.Fails, Tested.the-variants.Unsure, Refusal.Refusal, Refusal.the-variants.Blocked, Refusal.the-variants.Undefined, Refusal.the-variants.ScriptEnded, Refusal.the-variants.WordOutOfRange, Refusal.the-variants.BudgetSpent, Refusal.the-variants.BlockedSpoken, Refusal.the-variants.SecondCommunication, Outcome.Outcome, Outcome.the-variants.Ends, Outcome.the-variants.Jumps, Outcome.the-variants.Stops}
+use Rattle.model.specs.Limits.{limits}
 use Rattle.model.specs.Answers.{row}
 use Rattle.model.specs.Bytes.{wordAt}
 use Rattle.model.specs.Values.{mark, isZero, negate, plus, minus, times, quotient, remainder, same, ofBool, ofSize}
-use Rattle.model.specs.Image.{Tables, none, bool, int, sizeOf, typeOf}
+use Rattle.model.specs.Image.{Tables, none, int, sizeOf}
 use Rattle.model.specs.Rows.{Unary, Not, Negate, Binary, logic, And, Or, arithmetic, Plus, Minus, Times, Quotient, Remainder, comparison, Equal, Less, AtMost}
 use Rattle.model.specs.Trees.{Exp, var, const, unary, binary, Pat, any, bind, equals, guarded, Offer, emit, receive, Gets, OfType, Action, at, Act, null, assign, choose, reset, communicate, to, then, select, case, while, for, Branches, noBranch, branch, someBranch, Arms, noArm, arm}
 use Rattle.model.specs.Typing.{typeOfPat}
@@ -81,8 +82,8 @@ spoken (on g vs) = true
 
 -- "ten label words: gate (−1 for no communication), number of values, values, zeros to the tenth"
 unfoldable pub labelWords : Label → List ℤ
-labelWords ε = negsuc 0 ∷ replicate 9 (pos 0)
-labelWords (on g vs) = pos (g .0) ∷ pos (length vs) ∷ (vs ++ replicate (8 - length vs) (pos 0))
+labelWords ε = negsuc 0 ∷ replicate (limits .label - 1) (pos 0)
+labelWords (on g vs) = pos (g .0) ∷ pos (length vs) ∷ (vs ++ replicate (limits .vector - length vs) (pos 0))
 
 -- what a run threads: store, words read, units left, label
 pub record St : Type 0 where
@@ -104,7 +105,8 @@ stored m s = record { store = m; words = s .words; left = s .left; label = s .la
 abbrev pub labelled : Label → St → St
 labelled l s = record { store = s .store; words = s .words; left = s .left; label = l }
 
--- "One unit is charged on entering an action row, before its effect", and then k; an action at no row costs nothing
+-- "One unit is charged on entering an action row, before its effect", and then k; an action that no row says, as a part of a
+-- for's expansion, costs nothing
 unfoldable pub charge : ℕ → St → (St → Res) → Res
 charge r s k =
     elim (eqb r none) [
@@ -186,7 +188,8 @@ unfoldable pub communicating : Tables → Gate → List Offer → List ℕ → �
 communicating x g os script r s =
     elim (spoken (s .label)) [ true ↦ gives (Stops (SecondCommunication (row r))) s | false ↦ offering x g os [] script r s ]
 
--- R19: the condition and the body in turn, "one for each further test of a loop"; n is above the units left
+-- R19: the condition and the body in turn, "one for each further test of a loop"; n is above the units left, so that a loop at a
+-- row never comes to zero
 unfoldable pub looping : ℕ → Tables → Exp → (St → Res) → ℕ → St → Res
 looping zero x e body r s = gives (Stops (BudgetSpent (row r))) s
 looping (suc n) x e body r s =

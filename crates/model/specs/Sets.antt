@@ -1,18 +1,12 @@
 -- Initialisation, one action (report, Figure 7 as 01 reads it): m is the set of variables surely defined on entering, top all
 -- variables; where an action never ends, or never jumps to a state, its set there is top. Assumes nothing.
-use mathlib.Core.{Bool.Bool, Bool.true, Bool.false, Bool._&&_, List.List, List.map}
+use mathlib.Core.{Bool.Bool, Bool.true, Bool.false, Bool._&&_}
 use Prim.Native.Nat.{ℕ}
 use lib.Dec.{eqb}
 use Rattle.model.specs.Lists.{all}
-use Rattle.model.specs.Masks.{bit, meet, join, without, union, inside}
-use Rattle.model.specs.Trees.{Exp, Pat, Offer, Gets, OfType, Action, at, Act, null, assign, choose, reset, communicate, to, then, select, case, while, for, Branches, noBranch, branch, Arms, noArm, arm}
-use Rattle.model.specs.Binding.{useOfExp, defOfPat, useOfPat, useOfOffers, defOfOffers}
-
-abbrev pub assigned : List Gets → ℕ
-assigned items = union (map (λ i. bit (i .v .0)) items)
-
-abbrev pub chosen : List OfType → ℕ
-chosen items = union (map (λ i. bit (i .v .0)) items)
+use Rattle.model.specs.Masks.{bit, meet, join, without, inside}
+use Rattle.model.specs.Trees.{Action, at, Act, null, assign, choose, reset, communicate, to, then, select, case, while, for, Branches, noBranch, branch, Arms, noArm, arm}
+use Rattle.model.specs.Binding.{assigned, chosen, dropped, useOfExp, defOfPat, useOfPat, useOfOffers, defOfOffers}
 
 -- "A loop keeps its entering set": the set with which a loop's condition and body are judged and that holds after it, from
 -- the entering set and from what the body leaves of a set
@@ -28,7 +22,7 @@ unfoldable mutual
   endsAct top m null = m
   endsAct top m (assign items) = join m (assigned items)
   endsAct top m (choose items e) = join m (chosen items)
-  endsAct top m (reset vs) = without m (union (map (λ v. bit (v .0)) vs))
+  endsAct top m (reset vs) = without m (dropped vs)
   endsAct top m (communicate g os) = join m (defOfOffers os)
   endsAct top m (to q) = top
   endsAct top m (then a b) = ends top (ends top m a) b
@@ -93,6 +87,7 @@ unfoldable mutual
   fineAct top m (case e arms) = inside (join (useOfExp e) (useOfArms arms)) m && fineArms top m arms
   fineAct top m (while e a) =
       let k = endsAct top m (while e a) in inside (useOfExp e) k && (fine top k a && inside k (ends top k a))
+  -- V := V + 1 reads V, which the body can't have reset (9)
   fineAct top m (for v low high a) =
       let k = endsAct top m (for v low high a) in fine top k a && inside k (join (ends top k a) (bit (v .0)))
 

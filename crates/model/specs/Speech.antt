@@ -2,7 +2,7 @@
 -- nothing.
 use mathlib.Core.Bool.{Bool, true, false, not, _&&_, _||_}
 use Prim.Native.Nat.{ℕ, zero, suc}
-use lib.{Dec.eqb, IntN.ℤ, IntN.pos, IntN.negsuc}
+use lib.{Dec.eqb, IntN.ℤ, IntN.pos}
 use Rattle.model.specs.Values.{same}
 use Rattle.model.specs.Image.{Tables, bool, int, sizeOf}
 use Rattle.model.specs.Trees.{Exp, var, const, unary, binary, Pat, any, bind, equals, guarded, Action, at, Act, null, assign, choose, reset, communicate, to, then, select, case, while, for, Branches, noBranch, branch, someBranch, Arms, noArm, arm}
@@ -26,7 +26,7 @@ abbrev pub endsAs : Bool → Ways
 endsAs false = ways true true false
 endsAs true = ways true false true
 
--- both are entered
+-- either may be entered, so both are judged
 abbrev pub either : Ways → Ways → Ways
 either a b = ways (a .right && b .right) (a .quiet || b .quiet) (a .spoken || b .spoken)
 

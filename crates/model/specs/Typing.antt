@@ -1,12 +1,12 @@
 -- Typing (report, A.2; 01, "The checker's rules"; refusal 8): the rule of each row. Assumes nothing.
-use mathlib.Core.{Bool.Bool, Bool.true, Bool.false, Bool.not, Bool._&&_, Bool._||_, List.List, List.[], List._∷_}
+use mathlib.Core.{Bool.Bool, Bool.true, Bool.not, Bool._&&_, Bool._||_, List.List, List.[], List._∷_}
 use Prim.Native.Nat.{ℕ}
 use lib.Dec.{eqb}
 use Rattle.model.specs.declared.Gate.{Gate}
 use Rattle.model.specs.Lists.{all}
 use Rattle.model.specs.Image.{Tables, bool, int, typeOf}
 use Rattle.model.specs.Rows.{Unary, Not, Negate, Equal, Less, AtMost, Binary, logic, arithmetic, comparison}
-use Rattle.model.specs.Trees.{Exp, var, const, unary, binary, Pat, any, bind, equals, guarded, Offer, Gets, OfType, Act, null, assign, choose, reset, communicate, to, then, select, case, while, for, Arms, noArm, arm}
+use Rattle.model.specs.Trees.{Exp, var, const, unary, binary, Pat, any, bind, equals, guarded, Offer, Act, null, assign, choose, reset, communicate, to, then, select, case, while, for, Arms, noArm, arm}
 use Rattle.model.specs.Decode.{expressionAt, ruleAt}
 
 -- operand and result type of an operator of one operand
@@ -62,9 +62,9 @@ armsOfType x t noArm = true
 armsOfType x t (arm p a rest) = eqb (typeOfPat x p) t && armsOfType x t rest
 
 -- "τ has no offers"
-abbrev pub quietTau : Gate → List Offer → Bool
-quietTau g [] = true
-quietTau g (o ∷ os) = not (eqb (g .0) 0)
+abbrev pub mayOffer : Gate → List Offer → Bool
+mayOffer g [] = true
+mayOffer g (o ∷ os) = not (eqb (g .0) 0)
 
 -- the rule of an action, the actions in it apart
 unfoldable pub typedAct : Tables → Act → Bool
@@ -72,7 +72,7 @@ typedAct x null = true
 typedAct x (assign items) = all (λ i. eqb (typeOfExp x (i .e)) (typeOf x (i .v))) items
 typedAct x (choose items e) = all (λ i. eqb (typeOf x (i .v)) (i .t)) items && eqb (typeOfExp x e) bool
 typedAct x (reset vs) = true
-typedAct x (communicate g os) = quietTau g os
+typedAct x (communicate g os) = mayOffer g os
 typedAct x (to q) = true
 typedAct x (then a b) = true
 typedAct x (select bs) = true

@@ -39,9 +39,13 @@ pub struct Image {
 pub struct Bounds {
     pub types_least: u16,
     pub types: u16,
+    pub values_least: u16,
     pub values: u16,
+    pub variables_least: u16,
     pub variables: u16,
+    pub states_least: u16,
     pub states: u16,
+    pub gates_least: u16,
     pub gates: u16,
     pub rows_least: u16,
     pub rows: u16,
@@ -58,11 +62,20 @@ impl Image {
 
     pub const TYPES: u16 = 16;
 
+    // Values of a type other than int.
+    pub const VALUES_LEAST: u16 = 1;
+
     pub const VALUES: u16 = 4096;
+
+    pub const VARIABLES_LEAST: u16 = 0;
 
     pub const VARIABLES: u16 = 64;
 
+    pub const STATES_LEAST: u16 = 1;
+
     pub const STATES: u16 = 64;
+
+    pub const GATES_LEAST: u16 = 1;
 
     pub const GATES: u16 = 64;
 
@@ -92,9 +105,13 @@ impl Image {
         Bounds {
             types_least: Image::TYPES_LEAST,
             types: Image::TYPES,
+            values_least: Image::VALUES_LEAST,
             values: Image::VALUES,
+            variables_least: Image::VARIABLES_LEAST,
             variables: Image::VARIABLES,
+            states_least: Image::STATES_LEAST,
             states: Image::STATES,
+            gates_least: Image::GATES_LEAST,
             gates: Image::GATES,
             rows_least: Image::ROWS_LEAST,
             rows: Image::ROWS,
@@ -108,7 +125,7 @@ impl Image {
     }
 }
 
-// What is given instead of an answer: a case for each number of the table, with its place.
+// What is given instead of an answer: a case for each number of the table, two for 6, with its place.
 pub enum Refusal {
     ImageLength,
     MarkOrLength,
@@ -141,7 +158,7 @@ pub enum Refusal {
     SecondCommunication(Row),
 }
 
-// What a check, a start or one of their stages gives.
+// What check and start give, and each stage of the calls.
 pub enum Verdict {
     Accepted,
     Refused(Refusal),
