@@ -1,0 +1,1 @@
+// The demands, proved of the definitions: this crate holds no code, only its specs and proofs.
