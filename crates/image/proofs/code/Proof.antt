@@ -1,0 +1,33 @@
+use borrow.Author.Needs.{needs}
+use native.Mathlib.Omega.{arith}
+use Rattle.model.specs.declared.{Fields.Fields}
+use Rattle.image.proofs.Laid.{row-inside, row-read, type-inside, type-read, variable-inside, variable-read, state-inside, state-read}
+use mathlib.Core.{Path._≡_, Path.refl, Path.sym, Path.ap, Path._∙_}
+use Rattle.image.proofs.code.Statement.{statement}
+use Rattle.image.proofs.code.Tie as tie
+use Rattle.image.proofs.code.Reads as reads
+use Rattle.image.proofs.code.Lts as lts
+use Rattle.words.proofs.half.Reads as half-reads
+
+-- src/lib.rt:83:14
+cast-at : tie.Need-cast-at
+cast-at c = search needs
+
+-- src/lib.rt:83:32
+mul-at : tie.Need-mul-at
+mul-at c = search needs
+
+-- src/lib.rt:83:14
+add-at : tie.Need-add-at
+add-at c = search needs
+
+-- src/lib.rt:84:5
+half-requires : tie.Need-half-requires
+half-requires c κs = omega (arith, row-inside (c .before .before .pre))
+
+-- src/lib.rt:79:1
+returns : tie.Need-returns
+returns c = c .half .ensures ∙ sym (ap (λ (w : Fields). w .code) (row-read (c .before .before .before .pre)))
+
+pub code-spec : {M : Type 1} → statement M
+code-spec = tie.close (tie.spec cast-at mul-at add-at half-requires returns)

@@ -1,0 +1,34 @@
+use borrow.Author.Needs.{needs}
+use native.Mathlib.Omega.{arith}
+use Rattle.model.specs.Image.{Entry}
+use Rattle.model.specs.declared.{Fields.Fields}
+use Rattle.image.proofs.Laid.{row-inside, row-read, type-inside, type-read, variable-inside, variable-read, state-inside, state-read}
+use mathlib.Core.{Path._≡_, Path.refl, Path.sym, Path.ap, Path._∙_}
+use Rattle.image.proofs.variable_type.Statement.{statement}
+use Rattle.image.proofs.variable_type.Tie as tie
+use Rattle.image.proofs.variable_type.Reads as reads
+use Rattle.image.proofs.variable_type.Lts as lts
+use Rattle.words.proofs.half.Reads as half-reads
+
+-- src/lib.rt:42:14
+cast-at : tie.Need-cast-at
+cast-at c = search needs
+
+-- src/lib.rt:42:37
+mul-at : tie.Need-mul-at
+mul-at c = search needs
+
+-- src/lib.rt:42:14
+add-at : tie.Need-add-at
+add-at c = search needs
+
+-- src/lib.rt:43:5
+half-requires : tie.Need-half-requires
+half-requires c κs = omega (arith, variable-inside (c .before .before .pre))
+
+-- src/lib.rt:38:1
+returns : tie.Need-returns
+returns c = c .half .ensures ∙ sym (ap (λ (e : Entry). e .type) (variable-read (c .before .before .before .pre)))
+
+pub variable-type-spec : {M : Type 1} → statement M
+variable-type-spec = tie.close (tie.spec cast-at mul-at add-at half-requires returns)
