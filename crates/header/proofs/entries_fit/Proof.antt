@@ -1,0 +1,75 @@
+use borrow.Author.Needs.{needs}
+use native.Mathlib.Omega.{arith}
+use mathlib.Core.{Path._≡_, Path.refl, Path.sym, Path.ap, Path._∙_}
+use Rattle.header.proofs.Laws.{Entered, entered-begin, entered-type, entered-parameter, entered-next, entered-done}
+use Prim.Native.Nat.{_-_}
+use Rattle.image.proofs.Laid.{laid}
+use Rattle.header.proofs.entries_fit.Statement.{statement}
+use Rattle.header.proofs.entries_fit.Tie as tie
+use Rattle.header.proofs.entries_fit.Reads as reads
+use Rattle.header.proofs.entries_fit.Lts as lts
+use Rattle.image.proofs.parameter.Reads as parameter-reads
+use Rattle.image.proofs.variable_type.Reads as variable-type-reads
+
+abbrev Inv-loop : tie.InvT-loop
+Inv-loop image i types n v₀ v = Entered image i v
+
+abbrev μ-loop : tie.MeasureT-loop
+μ-loop image i types n v₀ v = n - v
+
+-- src/lib.rt:115:14
+sub-n : tie.Need-sub-n Inv-loop μ-loop
+sub-n c = omega (arith, laid (c .before .before .before .pre) .states)
+
+-- src/lib.rt:117:5
+loop-holds : tie.Need-loop-holds Inv-loop μ-loop
+loop-holds c = entered-begin (c .before .before .before .pre)
+
+-- src/lib.rt:118:21
+variable-type-requires : tie.Need-variable-type-requires Inv-loop μ-loop
+variable-type-requires c κs = record { located = c .before .before .before .before .before .pre; inside = omega arith }
+
+-- src/lib.rt:119:13
+returns : tie.Need-returns Inv-loop μ-loop
+returns c = entered-type (c .before .before .before .before .before .before .before .pre) (c .before .before .before .loop .inv) (omega arith) (c .before .variable-type .ensures) (c .if1 .taken)
+
+-- src/lib.rt:121:16
+parameter-requires : tie.Need-parameter-requires Inv-loop μ-loop
+parameter-requires c κs = record { located = c .before .before .before .before .before .before .before .pre; inside = omega arith }
+
+-- src/lib.rt:122:13
+returns-2 : tie.Need-returns-2 Inv-loop μ-loop
+returns-2 c = entered-parameter (c .before .before .before .before .before .before .before .before .before .pre) (c .before .before .before .before .before .loop .inv) (omega arith) (c .before .before .before .variable-type .ensures) (c .before .before .if1 .left) (c .before .parameter .ensures) (c .if2 .taken)
+
+-- src/lib.rt:124:9
+add-v : tie.Need-add-v Inv-loop μ-loop
+add-v c = search needs
+
+-- src/lib.rt:117:5
+loop-less : tie.Need-loop-less Inv-loop μ-loop
+loop-less c = omega arith
+
+-- src/lib.rt:117:5
+loop-again : tie.Need-loop-again Inv-loop μ-loop
+loop-again c = entered-next (c .before .before .before .before .before .before .before .before .before .pre) (c .before .before .before .before .before .loop .inv) (omega arith) (c .before .before .before .variable-type .ensures) (c .before .before .if1 .left) (c .before .parameter .ensures) (c .if2 .left)
+
+-- src/lib.rt:110:1
+returns-3 : tie.Need-returns-3 Inv-loop μ-loop
+returns-3 c = entered-done (c .before .before .before .before .before .pre) (c .before .loop .inv) (omega arith)
+
+pub entries-fit-spec : {M : Type 1} → statement M
+entries-fit-spec =
+    tie.close
+    (tie.spec
+    Inv-loop
+    μ-loop
+    sub-n
+    loop-holds
+    variable-type-requires
+    returns
+    parameter-requires
+    returns-2
+    add-v
+    loop-less
+    loop-again
+    returns-3)

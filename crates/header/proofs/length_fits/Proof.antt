@@ -1,0 +1,27 @@
+use borrow.Author.Needs.{needs}
+use native.Mathlib.Omega.{arith}
+use mathlib.Core.{Path._≡_, Path.refl, Path.sym, Path.ap, Path._∙_}
+use Rattle.header.proofs.Laws.{short, not-short}
+use Rattle.header.proofs.length_fits.Statement.{statement}
+use Rattle.header.proofs.length_fits.Tie as tie
+use Rattle.header.proofs.length_fits.Reads as reads
+use Rattle.header.proofs.length_fits.Lts as lts
+
+-- src/lib.rt:14:22
+cast-if1 : tie.Need-cast-if1
+cast-if1 c = search needs
+
+-- src/lib.rt:15:9
+returns : tie.Need-returns
+returns c = short _ (c .if1 .taken)
+
+-- src/lib.rt:17:20
+cast-result : tie.Need-cast-result
+cast-result c = search needs
+
+-- src/lib.rt:11:1
+returns-2 : tie.Need-returns-2
+returns-2 c = not-short _ (c .if1 .left)
+
+pub length-fits-spec : {M : Type 1} → statement M
+length-fits-spec = tie.close (tie.spec cast-if1 returns cast-result returns-2)
