@@ -45,7 +45,7 @@ pub checks : (s sets : List ℕ) → check s sets .answer ≡ Accepted → Check
 unfolding check checkVerdict flowVerdict
 checks s sets e =
     let x = tablesOf s in
-    let a = after-both (imageVerdict s) _ (checked-accepted (checkVerdict s sets) (setsOf x) sets e) in
+    let a = after-both (imageVerdict s) _ (checked-accepted (checkVerdict s (length sets)) (setsOf x) sets e) in
     let b = after-both (unless (leb (length (x .states)) (length sets)) SetsShort) (flowVerdict x) (a .1) in
     let c = after-both (each (initialised x (reachedOf x) (setsOf x)) (length (x .states)) (λ q. Initialisation (state q))) _ (b .1) in
     record {

@@ -73,7 +73,7 @@ given-at : (image sets : List ℕ) → check image sets .answer ≡ Accepted →
 unfolding check
 given-at image sets e s d l =
     let m = setsOf (tablesOf image) in
-    ap (λ k. getD k s 0) (checked-sets (checkVerdict image sets) m sets e) ∙ List·getD-append m (drop (length m) sets) 0 s l ∙ any-default m s 0 d l
+    ap (λ k. getD k s 0) (checked-sets (checkVerdict image (length sets)) m sets e) ∙ List·getD-append m (drop (length m) sets) 0 s l ∙ any-default m s 0 d l
 
 pub sets-are-largest : SetsAreLargest
 sets-are-largest image b e =

@@ -46,11 +46,11 @@ flowVerdict x =
     after (each (initialised x (reachedOf x) (setsOf x)) (length (x .states)) (λ s. Initialisation (state s)))
     (each (λ s. wellSpoken x (act x s)) (length (x .states)) (λ s. Speech (state s)))
 
--- "Check: 1–12"
-unfoldable pub checkVerdict : List ℕ → List ℕ → Verdict
-checkVerdict s sets =
+-- "Check: 1–12", with room for so many sets
+unfoldable pub checkVerdict : List ℕ → ℕ → Verdict
+checkVerdict s room =
     after (imageVerdict s)
-    (after (unless (leb (length (tablesOf s .states)) (length sets)) SetsShort)
+    (after (unless (leb (length (tablesOf s .states)) room) SetsShort)
     (flowVerdict (tablesOf s)))
 
 -- what check gives and the sets buffer after it
@@ -64,7 +64,7 @@ checkedAs (Refused y) masks sets = record { answer = Refused y; sets = sets }
 
 -- check: "entry s holds the mask of variables surely defined on entering state s; later entries keep their content"
 unfoldable pub check : List ℕ → List ℕ → Checked
-check s sets = checkedAs (checkVerdict s sets) (setsOf (tablesOf s)) sets
+check s sets = checkedAs (checkVerdict s (length sets)) (setsOf (tablesOf s)) sets
 
 -- the number of parameters
 unfoldable pub parameterCount : List Entry → ℕ

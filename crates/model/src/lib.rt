@@ -2,6 +2,7 @@
 // variables and gates, and the answers by value.
 ghost use mathlib.Core.Path.{_≡_};
 ghost use Rattle.model.specs.Limits.{limits};
+ghost use Rattle.model.specs.Answers.{number, place};
 
 // A state of the report's set of states.
 pub struct State(pub u16);
@@ -156,6 +157,80 @@ pub enum Refusal {
     BudgetSpent(Row),
     BlockedSpoken(Row),
     SecondCommunication(Row),
+}
+
+impl Refusal {
+    // The number of the table.
+    pub fn number(self) -> u16
+        ensures { λ n. ⌜ n ≡ number self ⌝ }
+    {
+        match self {
+            Refusal::ImageLength => 1,
+            Refusal::MarkOrLength => 2,
+            Refusal::Starts => 3,
+            Refusal::Entries => 4,
+            Refusal::Malformed(_) => 5,
+            Refusal::NoAction(_) => 6,
+            Refusal::NoCondition(_) => 6,
+            Refusal::NotNamedOnce(_) => 7,
+            Refusal::Typing(_) => 8,
+            Refusal::Binding(_) => 9,
+            Refusal::SetsShort => 10,
+            Refusal::Initialisation(_) => 11,
+            Refusal::Speech(_) => 12,
+            Refusal::StoreLength => 13,
+            Refusal::ParameterCount => 14,
+            Refusal::ParameterValue(_) => 15,
+            Refusal::ConditionFalse => 16,
+            Refusal::NoState => 17,
+            Refusal::SlotValue(_) => 18,
+            Refusal::LabelShort => 19,
+            Refusal::BudgetOver => 20,
+            Refusal::Blocked(_) => 21,
+            Refusal::Undefined(_) => 22,
+            Refusal::ScriptEnded(_) => 23,
+            Refusal::WordOutOfRange(_) => 24,
+            Refusal::BudgetSpent(_) => 25,
+            Refusal::BlockedSpoken(_) => 26,
+            Refusal::SecondCommunication(_) => 27,
+        }
+    }
+
+    // The place of the table.
+    pub fn place(self) -> u16
+        ensures { λ n. ⌜ n ≡ place self ⌝ }
+    {
+        match self {
+            Refusal::ImageLength => 0,
+            Refusal::MarkOrLength => 0,
+            Refusal::Starts => 0,
+            Refusal::Entries => 0,
+            Refusal::Malformed(r) => r.0,
+            Refusal::NoAction(s) => s.0,
+            Refusal::NoCondition(n) => n,
+            Refusal::NotNamedOnce(r) => r.0,
+            Refusal::Typing(r) => r.0,
+            Refusal::Binding(r) => r.0,
+            Refusal::SetsShort => 0,
+            Refusal::Initialisation(s) => s.0,
+            Refusal::Speech(s) => s.0,
+            Refusal::StoreLength => 0,
+            Refusal::ParameterCount => 0,
+            Refusal::ParameterValue(v) => v.0,
+            Refusal::ConditionFalse => 0,
+            Refusal::NoState => 0,
+            Refusal::SlotValue(v) => v.0,
+            Refusal::LabelShort => 0,
+            Refusal::BudgetOver => 0,
+            Refusal::Blocked(r) => r.0,
+            Refusal::Undefined(r) => r.0,
+            Refusal::ScriptEnded(r) => r.0,
+            Refusal::WordOutOfRange(r) => r.0,
+            Refusal::BudgetSpent(r) => r.0,
+            Refusal::BlockedSpoken(r) => r.0,
+            Refusal::SecondCommunication(r) => r.0,
+        }
+    }
 }
 
 // What check and start give, and each stage of the calls.
