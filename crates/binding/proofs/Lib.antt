@@ -1,0 +1,7 @@
+pub mod Gathering
+pub mod Readings
+pub mod NextItem
+pub mod Vectors
+pub mod OfferLists
+pub mod RowRules
+pub mod Lowest

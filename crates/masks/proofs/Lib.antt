@@ -1,0 +1,4 @@
+pub mod ByCode
+pub mod ByKind
+pub mod ByRow
+pub mod Filling

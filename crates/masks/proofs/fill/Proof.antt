@@ -1,0 +1,64 @@
+-- `masks::fill` meets its contract: what it lends has an entry for each row. Assumes nothing.
+use borrow.Author.Needs.{needs}
+use native.Mathlib.Omega.{arith}
+use lib.ListN.{length-take}
+use Rattle.masks.proofs.Filling.{fit-front, filled-front}
+use Rattle.masks.proofs.fill.Statement.{statement}
+use Rattle.masks.proofs.fill.Tie as tie
+use Rattle.masks.proofs.fill.Reads as reads
+use Rattle.masks.proofs.fill.Lts as lts
+use Rattle.masks.proofs.fill_rows.Reads as fill-rows-reads
+use Rattle.masks.proofs.row_count.Reads as row-count-reads
+
+row-count-requires : tie.Need-row-count-requires
+row-count-requires c κs = search needs
+
+slice-relend-prefix-fill-rows : tie.Need-slice-relend-prefix-fill-rows
+slice-relend-prefix-fill-rows c = search needs
+
+slice-aggregate-fill-rows : tie.Need-slice-aggregate-fill-rows
+slice-aggregate-fill-rows c = simp length-take (omega arith)
+
+slice-relend-prefix-fill-rows-2 : tie.Need-slice-relend-prefix-fill-rows-2
+slice-relend-prefix-fill-rows-2 c = search needs
+
+slice-aggregate-fill-rows-2 : tie.Need-slice-aggregate-fill-rows-2
+slice-aggregate-fill-rows-2 c = simp length-take (omega arith)
+
+slice-relend-prefix-fill-rows-3 : tie.Need-slice-relend-prefix-fill-rows-3
+slice-relend-prefix-fill-rows-3 c = search needs
+
+slice-aggregate-fill-rows-3 : tie.Need-slice-aggregate-fill-rows-3
+slice-aggregate-fill-rows-3 c = simp length-take (omega arith)
+
+fill-rows-requires : tie.Need-fill-rows-requires
+fill-rows-requires c κs = fit-front (c .before .before .before .before .before .before .before .before .pre) (c .before .before .before .row-count .ensures)
+
+same-length : tie.Need-same-length
+same-length c = search needs
+
+same-length-2 : tie.Need-same-length-2
+same-length-2 c = search needs
+
+same-length-3 : tie.Need-same-length-3
+same-length-3 c = search needs
+
+returns : tie.Need-returns
+returns c = filled-front _ _ _ (c .before .before .before .before .before .before .fill-rows .ensures)
+
+pub fill-spec : {M : Type 1} → statement M
+fill-spec =
+    tie.close
+    (tie.spec
+    row-count-requires
+    slice-relend-prefix-fill-rows
+    slice-aggregate-fill-rows
+    slice-relend-prefix-fill-rows-2
+    slice-aggregate-fill-rows-2
+    slice-relend-prefix-fill-rows-3
+    slice-aggregate-fill-rows-3
+    fill-rows-requires
+    same-length
+    same-length-2
+    same-length-3
+    returns)

@@ -1,0 +1,21 @@
+-- `masks::mask` meets its contract. Assumes nothing.
+use mathlib.Core.Path.{sym}
+use borrow.Author.Needs.{needs}
+use lib.ListN.{List·getD-eq-default}
+use Rattle.masks.proofs.mask.Statement.{statement}
+use Rattle.masks.proofs.mask.Tie as tie
+
+mul-result : tie.Need-mul-result
+mul-result c = search needs
+
+shared-slice-read-result : tie.Need-shared-slice-read-result
+shared-slice-read-result c = search needs
+
+returns : tie.Need-returns
+returns c = search needs
+
+returns-2 : tie.Need-returns-2
+returns-2 c = sym (List·getD-eq-default (c .before .args .masks .now) 0 (c .if1 .left))
+
+pub mask-spec : {M : Type 1} → statement M
+mask-spec = tie.close (tie.spec mul-result shared-slice-read-result returns returns-2)

@@ -1,0 +1,5 @@
+pub mod Codes
+pub mod Fields
+pub mod Lowest
+pub mod Counting
+pub mod Stages

@@ -1,0 +1,36 @@
+-- `rows::once::count_row` meets its contract. Assumes nothing.
+use borrow.Author.Needs.{needs}
+use Rattle.rows.proofs.Counting.{counted-row}
+use Rattle.rows.proofs.once.count_row.Statement.{statement}
+use Rattle.rows.proofs.once.count_row.Tie as tie
+
+line-of-requires : tie.Need-line-of-requires
+line-of-requires c κs = search needs
+
+count-field-requires : tie.Need-count-field-requires
+count-field-requires c κs = search needs
+
+count-field-requires-2 : tie.Need-count-field-requires-2
+count-field-requires-2 c κs = search needs
+
+count-field-requires-3 : tie.Need-count-field-requires-3
+count-field-requires-3 c κs = search needs
+
+same-length : tie.Need-same-length
+same-length c = search needs
+
+returns : tie.Need-returns
+returns c =
+    let t = c .before .before .before .before .before .before .before .before .before .before .before .before .line-of .ensures in
+    counted-row _ (c .before .before .before .before .before .before .before .before .before .before .count-field .ensures _ (t .a)) (c .before .before .before .before .before .before .count-field2 .ensures _ (t .b)) (c .before .before .count-field3 .ensures _ (t .c))
+
+pub count-row-spec : {M : Type 1} → statement M
+count-row-spec =
+    tie.close
+    (tie.spec
+    line-of-requires
+    count-field-requires
+    count-field-requires-2
+    count-field-requires-3
+    same-length
+    returns)

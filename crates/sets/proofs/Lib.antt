@@ -1,0 +1,12 @@
+pub mod Forms
+pub mod Entries
+pub mod Leading
+pub mod Spreading
+pub mod Tests
+pub mod Rest
+pub mod Rows
+pub mod Plainly
+pub mod Steps
+pub mod Listing
+pub mod Rounds
+pub mod Finding
