@@ -1,5 +1,5 @@
 -- The parameters' mask, gathered from the last variable down. Assumes nothing.
-use mathlib.Core.{Path._≡_, Path.refl, Path.sym, Path.ap, Path._∙_, Path.subst, Bool.true, Bool._&&_, List.List, List.[], List._∷_}
+use mathlib.Core.{Path._≡_, Path.subst, Bool.true, List.List, List.[], List._∷_}
 use Prim.Native.Nat.{ℕ, zero, suc, _+_, _-_, _*_, _^_, _≤_, _<_}
 use native.Mathlib.{Nat.pow-suc, Omega.arith}
 use lib.{Dec.ltb, Dec.leb, ListN.length, ListN.getD, ListN.drop, Seq.drop-cons, Seq.drop-length, Pow.pow-pos, Pow.pow-mono}

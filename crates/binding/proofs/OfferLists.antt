@@ -4,18 +4,18 @@ use Prim.Native.Nat.{ℕ, _+_, _%_, _≤_, _<_}
 use native.Mathlib.Omega.{arith}
 use lib.ListN.{length}
 use Rattle.model.specs.declared.{Fields.Fields, Image.Image}
-use Rattle.model.specs.Masks.{union, apart}
+use Rattle.model.specs.Masks.{apart}
 use Rattle.model.specs.Image.{Tables, none, tablesOf, fieldsOf, rowCount}
-use Rattle.model.specs.Rows.{Kind, expression, offer, unknown, OfferRow, isEmit, isReceive, anOffer, kindOf, meansAt, isKind, nextOf}
-use Rattle.model.specs.Decode.{listAt, offerOf, offersAt}
-use Rattle.model.specs.Binding.{useOfOffer, defOfOffer, defOfOffers, distinct, ordered}
+use Rattle.model.specs.Rows.{Kind, offer, OfferRow, isEmit, isReceive, anOffer, meansAt, isKind, nextOf}
+use Rattle.model.specs.Decode.{offerOf, offersAt}
+use Rattle.model.specs.Binding.{useOfOffer, defOfOffer, distinct, ordered}
 use Rattle.model.proofs.Rows.{Formed, Named, kind-of, is-kind, kind-in, row-is, next-named}
 use Rattle.model.proofs.Decode.{listAt-none, listAt-step}
-use Rattle.image.specs.Located.{RowOf, Rooted}
+use Rattle.image.specs.Located.{RowOf}
 use Rattle.masks.specs.Masks.{useAt, defAt}
 use Rattle.masks.specs.Rows.{maskIn}
 use Rattle.masks.proofs.ByKind.{next-is, use-expression, def-expression, use-pattern, def-pattern, def-offers}
-use Rattle.binding.specs.Bound.{Exact, boundOffers, Starts, Offers}
+use Rattle.binding.specs.Bound.{boundOffers, Offers}
 use Rattle.binding.proofs.Readings.{ok, short, in-rows, few, read-use, read-def}
 
 and-false : (a : Bool) → false ≡ (a && false)
@@ -29,7 +29,7 @@ record Own (x : Tables) (r : ℕ) : Type 0 where
   defines : defOfOffer (offerOf x (fieldsOf x r) (meansAt x r)) ≡ defAt x (fieldsOf x r .a)
   uses : useOfOffer (offerOf x (fieldsOf x r) (meansAt x r)) ≡ useAt x (fieldsOf x r .a)
 
-module _ (x : Tables) (good : Formed x) (few : length (x .rows) ≤ none) where
+module _ (x : Tables) (good : Formed x) (size : length (x .rows) ≤ none) where
   own : (r : ℕ) → isKind x offer r ≡ true → Own x r
   unfolding offerOf
   own r k = let m = is-kind x offer r k in go (m .0) (m .1)
@@ -47,7 +47,7 @@ module _ (x : Tables) (good : Formed x) (few : length (x .rows) ≤ none) where
       ≡ ((apart (defAt x (fieldsOf x r .a)) (defAt x (nextOf x r)) && distinct (map defOfOffer (offersAt x (nextOf x r))))
       && (apart (useAt x (fieldsOf x r .a)) (defAt x (nextOf x r)) && ordered (offersAt x (nextOf x r))))
   unfolding boundOffers distinct ordered
-  turn r some o q = rw (listAt-step x good r some, o .defines, o .uses, def-offers x good few r (nextOf x r) q)
+  turn r some o q = rw (listAt-step x good r some, o .defines, o .uses, def-offers x good size r (nextOf x r) q)
 
 -- row r of the list
 module _ {s : List ℕ} {i : Image} {r : ℕ} {uses defs : List ℕ} (v : Offers s i r uses defs) where

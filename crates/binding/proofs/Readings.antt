@@ -7,14 +7,14 @@ use Rattle.model.specs.declared.Image.{Image}
 use Rattle.model.specs.Image.{none, tablesOf, rowCount, fieldsOf}
 use Rattle.model.specs.Rows.{meansAt}
 use Rattle.model.proofs.Rows as Model
-use Rattle.image.specs.Located.{Located, Rooted}
+use Rattle.image.specs.Located.{Rooted}
 use Rattle.image.proofs.Laid.{laid, rows-count, variables-count, states-count}
-use Rattle.masks.specs.Masks.{useAt, defAt}
+use Rattle.masks.specs.Masks.{useAt, defAt, Filled}
 use Rattle.masks.specs.Rows.{maskIn, Small}
 use Rattle.masks.proofs.ByKind.{use-none, def-none}
 use Rattle.masks.proofs.ByRow.{small-row}
 use Rattle.masks.proofs.Filling.{formed-of, rows-short, read}
-use Rattle.binding.specs.Bound.{Exact}
+use Rattle.binding.specs.Bound.{Masked, Exact}
 
 module _ {s : List ℕ} {i : Image} (h : Rooted s i) where
   pub ok : Model.Formed (tablesOf s)
@@ -25,9 +25,6 @@ module _ {s : List ℕ} {i : Image} (h : Rooted s i) where
 
   pub in-rows : (r : ℕ) → r < length (tablesOf s .rows) → r < rowCount i
   in-rows r l = omega (arith, rows-count (h .formed .located))
-
-  pub of-rows : (r : ℕ) → r < rowCount i → r < length (tablesOf s .rows)
-  of-rows r l = omega (arith, rows-count (h .formed .located))
 
   pub few : rowCount i ≤ 2048
   few = laid (h .formed .located) .rowsMost
@@ -47,3 +44,9 @@ module _ {s : List ℕ} {i : Image} (h : Rooted s i) where
       → maskIn defs n ≡ defAt (tablesOf s) n
   read-def {defs} e n p =
       read (defAt (tablesOf s)) defs (rowCount i) n (omega (arith, e .size, few)) (def-none (tablesOf s) ok short) (e .each) p
+
+-- the masks that were filled in are those that the rules ask for
+pub masked : {s : List ℕ} {i : Image} {uses defs leads : List ℕ} → Rooted s i → Filled (tablesOf s) (rowCount i) uses defs leads
+    → Masked s i uses defs
+masked h f =
+    record { rooted = h; useRow = f .useRow; defRow = f .defRow; usesSize = f .usesSize; defsSize = f .defsSize }

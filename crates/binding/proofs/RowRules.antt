@@ -1,26 +1,26 @@
 -- The rule of one row: by what it means, then by its code. Assumes nothing.
-use mathlib.Core.{Path._≡_, Path.refl, Path.sym, Path.ap, Path._∙_, Path.subst, Logic._⊎_, Logic.inl, Logic.inr, Logic.⊎-elim, Bool.Bool, Bool.true, Bool.false, Bool.not, Bool._&&_, Bool._||_, List.List}
-use Prim.Native.Nat.{ℕ, zero, suc, _+_, _≤_, _<_}
-use native.Mathlib.{Nat.eq-or-lt-of-le, Decide.decLt, Omega.arith}
-use lib.{Dec.eqb, Dec.ltb, ListN.length}
+use mathlib.Core.{Path._≡_, Path.refl, Path.sym, Path.ap, Path._∙_, Path.subst, Logic._⊎_, Logic.inl, Logic.inr, Bool.Bool, Bool.true, Bool.false, Bool._&&_, List.List}
+use Prim.Native.Nat.{ℕ, _≤_, _<_}
+use native.Mathlib.{Decide.decLt, Omega.arith}
+use lib.{Dec.ltb, ListN.length}
 use borrow.Author.Tests.{eq-eqb, ne-eqb}
 use Rattle.model.specs.declared.{Fields.Fields, Image.Image}
 use Rattle.model.specs.Masks.{apart, inside}
 use Rattle.model.specs.Lists.{all}
-use Rattle.model.specs.Image.{Tables, none, tablesOf, fieldsOf, rowCount}
-use Rattle.model.specs.Rows.{Kind, expression, offer, gets, ofType, item, unknown, isNull, isAssign, isChoose, isReset, isCommunicate, isTo, isThen, isSelect, isCase, isWhile, isFor, Means, anExpression, aPattern, anOffer, anAction, another, Shape, codes, lookup, shapeOf, meansAt, isKind, isRoot}
-use Rattle.model.specs.Decode.{expressionAt, offersAt, growAction, ruleAt}
+use Rattle.model.specs.Image.{Tables, none, tablesOf, fieldsOf}
+use Rattle.model.specs.Rows.{Kind, expression, gets, ofType, item, isNull, isAssign, isChoose, isReset, isCommunicate, isTo, isThen, isSelect, isCase, isWhile, isFor, Means, anExpression, aPattern, anOffer, anAction, another, Shape, codes, lookup, shapeOf, meansAt, isKind, isRoot}
+use Rattle.model.specs.Decode.{offersAt, growAction, ruleAt}
 use Rattle.model.specs.Binding.{boundAct, distinct, parametersOf, bound}
 use Rattle.model.proofs.Rows.{Formed, Named, Row, row-of, row-is, is-kind, both-true}
 use Rattle.model.proofs.Decode.{actionAt-is}
-use Rattle.image.specs.Located.{RowOf, Rooted}
+use Rattle.image.specs.Located.{RowOf}
 use Rattle.image.proofs.Laid.{condition-is}
 use Rattle.masks.specs.Masks.{useAt, defAt}
 use Rattle.masks.specs.Rows.{maskIn}
 use Rattle.masks.proofs.ByCode.{each-at, allFrom, all-from, beyond}
 use Rattle.masks.proofs.ByKind.{use-expression, def-action, def-range}
-use Rattle.binding.specs.Bound.{bitsAt, boundOffers, Item, Vector, Offers, Ruled, Rule}
-use Rattle.binding.proofs.Readings.{ok, short, of-rows, read-use, read-def}
+use Rattle.binding.specs.Bound.{bitsAt, boundOffers, Item, Vector, Offers, Rule}
+use Rattle.binding.proofs.Readings.{ok, read-use, read-def}
 use Rattle.binding.proofs.Vectors.{gets-bits, of-types-bits, variables-bits}
 
 -- ---- by what the row means

@@ -1,5 +1,5 @@
 -- The items of a vector, row by row: each variable's bit is apart from what the rest of the list defines. Assumes nothing.
-use mathlib.Core.{Path._≡_, Path.refl, Path.sym, Path.ap, Path._∙_, Path.subst, Logic._⊎_, Logic.inl, Logic.inr, Logic.⊎-elim, Bool.Bool, Bool.true, Bool.false, Bool._&&_, List.List, List.[], List._∷_, List.map, List.map-map}
+use mathlib.Core.{Path._≡_, Path.sym, Path.ap, Path._∙_, Path.subst, Logic._⊎_, Logic.inl, Logic.inr, Logic.⊎-elim, Bool.Bool, Bool.true, Bool.false, Bool._&&_, List.List, List.map, List.map-map}
 use Prim.Native.Nat.{ℕ, _+_, _%_, _≤_, _<_}
 use native.Mathlib.Omega.{arith}
 use lib.ListN.{length}
@@ -7,17 +7,17 @@ use Rattle.model.specs.declared.{Fields.Fields, Image.Image, Variable.Variable}
 use Rattle.model.specs.Answers.{variable}
 use Rattle.model.specs.Masks.{bit, union, apart}
 use Rattle.model.specs.Image.{Tables, none, tablesOf, fieldsOf, rowCount}
-use Rattle.model.specs.Rows.{Kind, expression, pattern, offer, gets, ofType, item, range, action, branch, arm, unknown, Means, another, kindOf, shapeOf, meansAt, isKind, nextOf}
+use Rattle.model.specs.Rows.{Kind, expression, pattern, offer, gets, ofType, item, range, action, branch, arm, unknown, Means, kindOf, shapeOf, meansAt, isKind, nextOf}
 use Rattle.model.specs.Trees.{Gets, OfType}
 use Rattle.model.specs.Decode.{expressionAt, listAt, getsAt, ofTypesAt, variablesAt}
 use Rattle.model.specs.Binding.{distinct}
 use Rattle.model.proofs.Rows.{Formed, Named, Meaning, kind-of, is-kind, kind-in, next-named}
 use Rattle.model.proofs.Decode.{listAt-none, listAt-step}
-use Rattle.image.specs.Located.{RowOf, Rooted}
+use Rattle.image.specs.Located.{RowOf}
 use Rattle.masks.specs.Masks.{defAt}
 use Rattle.masks.specs.Rows.{maskIn, Small}
 use Rattle.masks.proofs.ByKind.{def-gets, def-of-types, def-items}
-use Rattle.binding.specs.Bound.{Exact, bitsAt, Item, Starts, Vector, nextIn}
+use Rattle.binding.specs.Bound.{bitsAt, Item, Vector, nextIn}
 use Rattle.binding.proofs.Readings.{ok, short, in-rows, few, small-at, read-def}
 
 -- ---- the bits of a vector's variables, by its items
@@ -47,14 +47,14 @@ bit-small branch m n p e h = absurd p
 bit-small arm m n p e h = absurd p
 bit-small unknown m n p e h = absurd p
 
-module _ (x : Tables) (good : Formed x) (few : length (x .rows) ≤ none) where
+module _ (x : Tables) (good : Formed x) (size : length (x .rows) ≤ none) where
   def-bits : (k : Kind) → Item k → (r n : ℕ) → (n ≡ none) ⊎ Named x r k n → defAt x n ≡ union (bitsAt x n)
   def-bits expression p r n q = absurd p
   def-bits pattern p r n q = absurd p
   def-bits offer p r n q = absurd p
-  def-bits gets p r n q = def-gets x good few r n q ∙ ap union (gets-bits x n)
-  def-bits ofType p r n q = def-of-types x good few r n q ∙ ap union (of-types-bits x n)
-  def-bits item p r n q = def-items x good few r n q ∙ ap union (variables-bits x n)
+  def-bits gets p r n q = def-gets x good size r n q ∙ ap union (gets-bits x n)
+  def-bits ofType p r n q = def-of-types x good size r n q ∙ ap union (of-types-bits x n)
+  def-bits item p r n q = def-items x good size r n q ∙ ap union (variables-bits x n)
   def-bits range p r n q = absurd p
   def-bits action p r n q = absurd p
   def-bits branch p r n q = absurd p

@@ -6,7 +6,7 @@ use Rattle.model.specs.declared.{Fields.Fields, Image.Image, Verdict.Verdict, R
 use Rattle.model.specs.Answers.{row, each}
 use Rattle.model.specs.Masks.{bit}
 use Rattle.model.specs.Image.{Tables, none, tablesOf, fieldsOf, rowCount}
-use Rattle.model.specs.Rows.{Kind, expression, pattern, offer, gets, ofType, item, range, action, branch, arm, unknown, kindOf, shapeOf, isKind, pickNext}
+use Rattle.model.specs.Rows.{Kind, expression, pattern, offer, gets, ofType, item, range, action, branch, arm, unknown, shapeOf, isKind, pickNext}
 use Rattle.model.specs.Trees.{Offer}
 use Rattle.model.specs.Decode.{listAt}
 use Rattle.model.specs.Binding.{defOfOffer, distinct, ordered, parametersOf, bound}

@@ -1,4 +1,5 @@
-// Binding (refusal 9): each variable is defined at most once, the rules of offers and of for, the initial condition.
+// Binding (refusal 9): a vector or a list of offers defines each variable at most once, offers run left to right, the body
+// of a for leaves its variable alone, and the initial condition reads parameters only.
 ghost use mathlib.Core.Path.{_≡_};
 ghost use Rattle.model.specs.Image.{tablesOf};
 ghost use Rattle.model.specs.Rows.{kindOf, shapeOf};
@@ -19,7 +20,10 @@ use model::Refusal;
 use model::Row;
 use model::Verdict;
 
-// The parameters.
+// No row.
+const NONE: u16 = 0xFFFF;
+
+// The parameters' mask, from the last variable down, as its definition goes.
 fn parameters(image: &[u8], i: Image) -> u64
     requires { ⌜ Rooted (now image) i ⌝ }
     ensures { λ m. ⌜ m ≡ parametersOf (tablesOf (now (image .entry)) .variables) ⌝ }
@@ -41,13 +45,13 @@ fn next_item(w: Fields) -> u16
     if w.code == 46 { w.b } else { w.c }
 }
 
-// No variable of a vector stands in it twice.
+// No variable of a vector stands in it twice: each is apart from those of the rest of the list.
 fn distinct_items(image: &[u8], i: Image, first: u16, defs: &[u64]) -> bool
     requires { ⌜ Vector (now image) i first (now defs) ⌝ }
     ensures { λ b. ⌜ b ≡ distinct (bitsAt (tablesOf (now (image .entry))) first) ⌝ }
 {
     let mut r = first;
-    while r != 0xFFFF {
+    while r != NONE {
         let w = fields(image, i, r);
         let next = next_item(w);
         if !apart(bit(w.a), mask(defs, next)) {
@@ -58,13 +62,13 @@ fn distinct_items(image: &[u8], i: Image, first: u16, defs: &[u64]) -> bool
     true
 }
 
-// No offer defines a variable that a later one defines, or uses one that a later one defines.
+// What an offer defines, and what it uses, is apart from what later offers define.
 fn bound_offers(image: &[u8], i: Image, first: u16, uses: &[u64], defs: &[u64]) -> bool
     requires { ⌜ Offers (now image) i first (now uses) (now defs) ⌝ }
     ensures { λ b. ⌜ b ≡ boundOffers (offersAt (tablesOf (now (image .entry))) first) ⌝ }
 {
     let mut r = first;
-    while r != 0xFFFF {
+    while r != NONE {
         let w = fields(image, i, r);
         let later = mask(defs, w.b);
         if !apart(mask(defs, w.a), later) {
@@ -78,7 +82,7 @@ fn bound_offers(image: &[u8], i: Image, first: u16, uses: &[u64], defs: &[u64]) 
     true
 }
 
-// Row r's rule; allowed are the parameters, which alone the initial condition reads.
+// Row r's rule. The condition's row is an expression, so it has no rule but that it reads what is allowed: parameters.
 fn bound(image: &[u8], i: Image, r: u16, uses: &[u64], defs: &[u64], allowed: u64) -> bool
     requires { ⌜ Rule (now image) i r (now uses) (now defs) allowed ⌝ }
     ensures { λ b. ⌜ b ≡ bound (tablesOf (now (image .entry))) r ⌝ }
@@ -113,7 +117,7 @@ fn rows_verdict(image: &[u8], i: Image, uses: &[u64], defs: &[u64]) -> Verdict
     Verdict::Accepted
 }
 
-// 9: binding, at the lowest row whose rule fails.
+// 9: binding. What is lent on ends where the rows end, so that none is past it.
 pub fn binding_verdict(image: &[u8], i: Image, uses: &[u64], defs: &[u64]) -> Verdict
     requires { ⌜ Masked (now image) i (now uses) (now defs) ⌝ }
     ensures { λ v. ⌜ v ≡ bindingVerdict (tablesOf (now (image .entry))) ⌝ }

@@ -1,15 +1,15 @@
 -- The masks of a row by its kind; the masks of the list that starts at a row, or none. Assumes nothing.
-use mathlib.Core.{Path._≡_, Path.refl, Path.sym, Path.ap, Path._∙_, Logic._⊎_, Logic.inl, Logic.inr, Bool.true, List.List, List.[], List._∷_, List.map}
-use Prim.Native.Nat.{ℕ, _≤_, _<_}
+use mathlib.Core.{Path._≡_, Path.ap, Logic._⊎_, Logic.inl, Logic.inr, Bool.true, List.map}
+use Prim.Native.Nat.{ℕ, _≤_}
 use lib.ListN.{length, List·getD-eq-default}
 use Rattle.model.specs.declared.Fields.{Fields}
 use Rattle.model.specs.Masks.{bit, union}
 use Rattle.model.specs.Image.{Tables, none, fieldsOf}
-use Rattle.model.specs.Rows.{Kind, expression, pattern, offer, gets, ofType, item, range, action, branch, arm, unknown, Means, another, codes, lookup, shapeOf, meansAt, isKind, pickNext, nextOf}
-use Rattle.model.specs.Decode.{expressionAt, patternAt, actionAt, listAt, offersAt, getsAt, ofTypesAt, variablesAt, branchesOf, armsOf}
+use Rattle.model.specs.Rows.{expression, pattern, offer, gets, ofType, item, range, action, branch, arm, unknown, Means, another, codes, lookup, shapeOf, meansAt, isKind, pickNext, nextOf}
+use Rattle.model.specs.Decode.{expressionAt, patternAt, actionAt, offersAt, getsAt, ofTypesAt, variablesAt, branchesOf, armsOf}
 use Rattle.model.specs.Binding.{assigned, chosen, dropped, useOfExp, defOfPat, useOfPat, useOfOffers, defOfOffers, touches, touchesBranches, touchesArms}
 use Rattle.model.specs.Sets.{useOfArms, targets, targetsBranches, targetsArms}
-use Rattle.model.proofs.Rows.{Formed, Named, Lined, fieldsFor, lined, is-kind}
+use Rattle.model.proofs.Rows.{Formed, Named, fieldsFor, lined, is-kind}
 use Rattle.model.proofs.Decode.{listAt-none}
 use Rattle.masks.specs.Masks.{branchesAt, armsAt, useAs, defAs, leadAs, useAt, defAt, leadAt}
 

@@ -1,22 +1,21 @@
 -- The masks of a row from its fields and the masks of lower rows, in an image free of 5. Assumes nothing.
-use mathlib.Core.{Path._≡_, Path.refl, Path.sym, Path.ap, Path._∙_, Logic._⊎_, Logic.inl, Logic.inr, Logic.⊎-elim, Bool.true, List.List, List.map}
+use mathlib.Core.{Path._≡_, Path.refl, Path._∙_, Logic._⊎_, Logic.inl, Logic.inr, Bool.true, List.map}
 use Prim.Native.Nat.{ℕ, _≤_, _<_}
 use native.Mathlib.Omega.{arith}
 use lib.{Dec.ltb, ListN.length, Bits.or-zero-l}
 use borrow.Author.Tests.{ltb-true}
 use Rattle.model.specs.declared.Fields.{Fields}
-use Rattle.model.specs.Masks.{bit, join, without, union}
+use Rattle.model.specs.Masks.{bit, join, union}
 use Rattle.model.specs.Image.{Tables, none, fieldsOf}
-use Rattle.model.specs.Rows.{Kind, expression, pattern, offer, gets, ofType, item, range, action, branch, arm, unknown, isVariable, isConstant, isUnary, isBinary, isAny, isBind, isValue, isWhere, isEmit, isReceive, isNull, isAssign, isChoose, isReset, isCommunicate, isTo, isThen, isSelect, isCase, isWhile, isFor, Means, anExpression, aPattern, anOffer, anAction, another, meansAt, nextOf}
-use Rattle.model.specs.Decode.{growExpression, expressionAt, growPattern, patternAt, listAt, offerOf, offersAt, getsAt, ofTypesAt, variablesAt, branchesOf, armsOf, growAction, actionAt}
+use Rattle.model.specs.Rows.{Kind, expression, pattern, offer, gets, ofType, item, range, action, branch, arm, unknown, isVariable, isConstant, isUnary, isBinary, isAny, isBind, isValue, isWhere, isEmit, isReceive, isNull, isAssign, isChoose, isReset, isCommunicate, isTo, isThen, isSelect, isCase, isWhile, isFor, Means, anExpression, aPattern, anOffer, anAction, another, meansAt}
+use Rattle.model.specs.Decode.{growExpression, expressionAt, growPattern, patternAt, offerOf, offersAt, getsAt, ofTypesAt, variablesAt, branchesOf, armsOf, growAction, actionAt}
 use Rattle.model.specs.Binding.{assigned, chosen, dropped, useOfExp, defOfPat, useOfPat, useOfOffers, defOfOffers, touches, touchesBranches, touchesArms}
 use Rattle.model.specs.Sets.{useOfArms, targets, targetsBranches, targetsArms}
-use Rattle.model.proofs.Rows.{Formed, Named, Row, row-of, row-is}
+use Rattle.model.proofs.Rows.{Formed, Named, Row, row-of}
 use Rattle.model.proofs.Decode.{expressionAt-is, patternAt-is, actionAt-is, listAt-step}
-use Rattle.masks.specs.declared.Masks.{Masks}
 use Rattle.masks.specs.Masks.{branchesAt, armsAt, useAs, defAs, leadAs, useAt, defAt, leadAt}
 use Rattle.masks.specs.Rows.{masks, masksAt, masksBy, Small}
-use Rattle.masks.proofs.ByKind.{use-is, def-is, lead-is, next-is, use-expression, use-pattern, def-pattern, def-action, lead-action, def-range, use-offers, def-offers, use-gets, def-gets, def-of-types, def-items, def-branches, lead-branches, use-arms, def-arms, lead-arms}
+use Rattle.masks.proofs.ByKind.{next-is, use-expression, use-pattern, def-pattern, def-action, lead-action, def-range, use-offers, def-offers, use-gets, def-gets, def-of-types, def-items, def-branches, lead-branches, use-arms, def-arms, lead-arms}
 
 -- the masks of the rows below r, and none's, are u, d and l
 pub record Known (x : Tables) (r : ℕ) (u d l : ℕ → ℕ) : Type 0 where

@@ -1,17 +1,17 @@
 -- One row more: what holds while the masks are filled in, lowest row first. Assumes nothing.
-use mathlib.Core.{Path._≡_, Path.refl, Path.sym, Path.ap, Path._∙_, Path.subst, Logic._⊎_, Logic.inl, Logic.inr, Logic.⊎-elim, List.List, List._++_}
+use mathlib.Core.{Path._≡_, Path.sym, Path.ap, Path._∙_, Logic._⊎_, Logic.inl, Logic.inr, Logic.⊎-elim, List.List, List._++_}
 use Prim.Native.Nat.{ℕ, _+_, _≤_, _<_}
 use native.Mathlib.{Nat.eq-or-lt-of-le, Omega.arith}
-use lib.{ListN.length, ListN.getD, ListN.set, ListN.take, ListN.drop, ListN.length-set, ListN.length-take, ListN.length-append, ListN.List·getD-eq-default, ListN.List·getD-append, Seq.getD-set-same, Seq.getD-set-other}
+use lib.{ListN.length, ListN.getD, ListN.set, ListN.take, ListN.length-set, ListN.length-take, ListN.length-append, ListN.List·getD-eq-default, ListN.List·getD-append, Seq.getD-set-same, Seq.getD-set-other}
 use Rattle.model.specs.declared.{Fields.Fields, Image.Image}
 use Rattle.model.specs.Image.{Tables, none, tablesOf, fieldsOf, rowCount}
-use Rattle.model.specs.Rows.{shapeOf, meansAt}
+use Rattle.model.specs.Rows.{shapeOf}
 use Rattle.model.proofs.Rows as Model
-use Rattle.image.specs.Located.{Located, RowOf, Formed, Rooted}
-use Rattle.image.proofs.Laid.{Laid, laid, rows-count, variables-count, states-count}
+use Rattle.image.specs.Located.{Located, RowOf, Formed}
+use Rattle.image.proofs.Laid.{laid, rows-count, variables-count, states-count}
 use Rattle.masks.specs.declared.Masks.{Masks}
 use Rattle.masks.specs.Masks.{useAt, defAt, leadAt, Filled}
-use Rattle.masks.specs.Rows.{masksAt, maskIn, masksBy, Small, Lent, Fit}
+use Rattle.masks.specs.Rows.{maskIn, masksBy, Small, Lent, Fit}
 use Rattle.masks.proofs.ByKind.{use-none, def-none, lead-none}
 use Rattle.masks.proofs.ByRow.{Known, masks-row, small-row}
 

@@ -5,7 +5,7 @@ use lib.ListN.{length, getD}
 use Rattle.model.specs.declared.{Fields.Fields, Image.Image}
 use Rattle.model.specs.Masks.{bit, join, without}
 use Rattle.model.specs.Image.{Tables, rowCount}
-use Rattle.model.specs.Rows.{expression, pattern, offer, gets, ofType, item, range, action, branch, arm, unknown, isVariable, isConstant, isUnary, isBinary, isAny, isBind, isValue, isWhere, isEmit, isReceive, isNull, isAssign, isChoose, isReset, isCommunicate, isTo, isThen, isSelect, isCase, isWhile, isFor, Means, anExpression, aPattern, anOffer, anAction, another, shapeOf}
+use Rattle.model.specs.Rows.{expression, pattern, offer, gets, ofType, item, range, action, branch, arm, unknown, isVariable, isConstant, isUnary, isBinary, isAny, isBind, isValue, isWhere, isEmit, isReceive, isNull, isAssign, isChoose, isReset, isCommunicate, isTo, isThen, isSelect, isCase, isWhile, isFor, Means, anExpression, aPattern, anOffer, anAction, another}
 use Rattle.image.specs.Located.{Rooted}
 use Rattle.masks.specs.declared.Masks.{Masks}
 use Rattle.masks.specs.Masks.{useAt, defAt, leadAt}

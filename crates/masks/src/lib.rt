@@ -40,7 +40,7 @@ pub fn apart(a: u64, b: u64) -> bool
     a & b == 0
 }
 
-// The mask of row r, or of the list that starts there; none is past the end and has nothing.
+// The mask of row r, or of the list that starts there. None is past the end: an empty list has nothing.
 pub fn mask(masks: &[u64], r: u16) -> u64
     ensures { λ m. ⌜ m ≡ maskIn (now (masks .entry)) r ⌝ }
 {
@@ -58,7 +58,8 @@ fn joined(masks: &[u64], a: u16, b: u16) -> u64
 // The masks of a row: the variables that it uses, those that it defines or resets, the states that it leads to.
 pub struct Masks(pub u64, pub u64, pub u64);
 
-// The masks of a row from its fields and the masks of lower rows.
+// The masks of a row from its fields and the masks of lower rows: what it names, and its own variable or state. An action
+// uses nothing here: what its expressions use is asked where they are judged.
 fn masks_of(w: Fields, uses: &[u64], defs: &[u64], leads: &[u64]) -> Masks
     requires { ⌜ Small (shapeOf (w .code) .means) (w .a) ⌝ }
     ensures { λ m. ⌜ m ≡ masksBy (maskIn (now (uses .entry))) (maskIn (now (defs .entry))) (maskIn (now (leads .entry))) w (shapeOf (w .code) .means) ⌝ }
@@ -107,7 +108,7 @@ pub fn row_count(image: &[u8], i: Image) -> usize
     (image.len() - 16 - start) / 8
 }
 
-// The masks of every row, lowest first: a row's come from its fields and lower rows.
+// The masks of every row, lowest first, since rows name only lower rows.
 fn fill_rows(image: &[u8], i: Image, uses: &mut [u64], defs: &mut [u64], leads: &mut [u64])
     requires { ⌜ Fit (now image) i (now uses) (now defs) (now leads) ⌝ }
     ensures { λ r. ⌜ Filled (tablesOf (now (image .entry))) (rowCount i) (now (uses .exit)) (now (defs .exit)) (now (leads .exit)) ⌝ }
@@ -124,7 +125,7 @@ fn fill_rows(image: &[u8], i: Image, uses: &mut [u64], defs: &mut [u64], leads: 
     }
 }
 
-// The masks of every row, into the first entries of the slices.
+// The masks of every row, into the slices' first entries. What is lent on ends where the rows end, so that none is past it.
 pub fn fill(image: &[u8], i: Image, uses: &mut [u64], defs: &mut [u64], leads: &mut [u64])
     requires { ⌜ Lent (now image) i (now uses) (now defs) (now leads) ⌝ }
     ensures { λ r. ⌜ Filled (tablesOf (now (image .entry))) (rowCount i) (now (uses .exit)) (now (defs .exit)) (now (leads .exit)) ⌝ }

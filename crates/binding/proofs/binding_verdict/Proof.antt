@@ -5,10 +5,6 @@ use lib.ListN.{length-take}
 use Rattle.binding.proofs.Lowest.{ruled-front}
 use Rattle.binding.proofs.binding_verdict.Statement.{statement}
 use Rattle.binding.proofs.binding_verdict.Tie as tie
-use Rattle.binding.proofs.binding_verdict.Reads as reads
-use Rattle.binding.proofs.binding_verdict.Lts as lts
-use Rattle.binding.proofs.rows_verdict.Reads as rows-verdict-reads
-use Rattle.masks.proofs.row_count.Reads as row-count-reads
 
 row-count-requires : tie.Need-row-count-requires
 row-count-requires c κs = search needs

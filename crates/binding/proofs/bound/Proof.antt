@@ -4,14 +4,6 @@ use borrow.Author.Needs.{needs}
 use Rattle.binding.proofs.RowRules.{rule-row, rule-condition, rule-other, rule-vector, rule-offers, rule-for, at-vector, at-communicate, at-low, at-high}
 use Rattle.binding.proofs.bound.Statement.{statement}
 use Rattle.binding.proofs.bound.Tie as tie
-use Rattle.binding.proofs.bound.Reads as reads
-use Rattle.binding.proofs.bound.Lts as lts
-use Rattle.binding.proofs.bound_offers.Reads as bound-offers-reads
-use Rattle.binding.proofs.distinct_items.Reads as distinct-items-reads
-use Rattle.image.proofs.fields.Reads as fields-reads
-use Rattle.masks.proofs.apart.Reads as apart-reads
-use Rattle.masks.proofs.inside.Reads as inside-reads
-use Rattle.masks.proofs.mask.Reads as mask-reads
 
 mask-requires : tie.Need-mask-requires
 mask-requires c κs = search needs

@@ -10,11 +10,6 @@ use Rattle.binding.specs.Bound.{boundOffers, Offers}
 use Rattle.binding.proofs.OfferLists.{offers-over, offer-row, offer-next, offer-less, offer-defines, offer-uses, offer-passes}
 use Rattle.binding.proofs.bound_offers.Statement.{statement}
 use Rattle.binding.proofs.bound_offers.Tie as tie
-use Rattle.binding.proofs.bound_offers.Reads as reads
-use Rattle.binding.proofs.bound_offers.Lts as lts
-use Rattle.image.proofs.fields.Reads as fields-reads
-use Rattle.masks.proofs.apart.Reads as apart-reads
-use Rattle.masks.proofs.mask.Reads as mask-reads
 
 abbrev Inv-loop : tie.InvT-loop
 Inv-loop image i first uses defs r₀ r = Offers image i r uses defs × (boundOffers (offersAt (tablesOf image) r) ≡ boundOffers (offersAt (tablesOf image) first))

@@ -10,13 +10,6 @@ use Rattle.binding.specs.Bound.{bitsAt, Vector}
 use Rattle.binding.proofs.Vectors.{vector-over, vector-row, vector-item, vector-bit, vector-next, vector-less, vector-fails, vector-passes}
 use Rattle.binding.proofs.distinct_items.Statement.{statement}
 use Rattle.binding.proofs.distinct_items.Tie as tie
-use Rattle.binding.proofs.distinct_items.Reads as reads
-use Rattle.binding.proofs.distinct_items.Lts as lts
-use Rattle.binding.proofs.next_item.Reads as next-item-reads
-use Rattle.image.proofs.fields.Reads as fields-reads
-use Rattle.masks.proofs.apart.Reads as apart-reads
-use Rattle.masks.proofs.bit.Reads as bit-reads
-use Rattle.masks.proofs.mask.Reads as mask-reads
 
 abbrev Inv-loop : tie.InvT-loop
 Inv-loop image i first defs r₀ r = Vector image i r defs × (distinct (bitsAt (tablesOf image) r) ≡ distinct (bitsAt (tablesOf image) first))

@@ -2,8 +2,6 @@
 use Rattle.binding.proofs.NextItem.{next-b, next-c}
 use Rattle.binding.proofs.next_item.Statement.{statement}
 use Rattle.binding.proofs.next_item.Tie as tie
-use Rattle.binding.proofs.next_item.Reads as reads
-use Rattle.binding.proofs.next_item.Lts as lts
 
 returns : tie.Need-returns
 returns c = next-b (c .before .before .args .w) (c .if1 .taken)

@@ -7,9 +7,6 @@ use Rattle.image.proofs.Laid.{laid}
 use Rattle.binding.proofs.Gathering.{Gathered, gather-start, gather-here, gather-turn, gathered-fits, gathered-all}
 use Rattle.binding.proofs.parameters.Statement.{statement}
 use Rattle.binding.proofs.parameters.Tie as tie
-use Rattle.binding.proofs.parameters.Reads as reads
-use Rattle.binding.proofs.parameters.Lts as lts
-use Rattle.image.proofs.parameter.Reads as parameter-reads
 
 abbrev Inv-loop : tie.InvT-loop
 Inv-loop image i m₀ v₀ m v = Gathered (tablesOf image .variables) v m

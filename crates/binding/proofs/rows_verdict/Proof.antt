@@ -11,10 +11,6 @@ use Rattle.model.proofs.Order.{lowest-pass}
 use Rattle.binding.proofs.Lowest.{start, rows-few, rule-at, refused, accepted}
 use Rattle.binding.proofs.rows_verdict.Statement.{statement}
 use Rattle.binding.proofs.rows_verdict.Tie as tie
-use Rattle.binding.proofs.rows_verdict.Reads as reads
-use Rattle.binding.proofs.rows_verdict.Lts as lts
-use Rattle.binding.proofs.bound.Reads as bound-reads
-use Rattle.binding.proofs.parameters.Reads as parameters-reads
 
 abbrev Inv-loop : tie.InvT-loop
 Inv-loop image i uses defs allowed n r₀ r = (r ≤ n) × (lowest (bound (tablesOf image)) r ≡ r)

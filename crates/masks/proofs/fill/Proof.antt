@@ -5,10 +5,6 @@ use lib.ListN.{length-take}
 use Rattle.masks.proofs.Filling.{fit-front, filled-front}
 use Rattle.masks.proofs.fill.Statement.{statement}
 use Rattle.masks.proofs.fill.Tie as tie
-use Rattle.masks.proofs.fill.Reads as reads
-use Rattle.masks.proofs.fill.Lts as lts
-use Rattle.masks.proofs.fill_rows.Reads as fill-rows-reads
-use Rattle.masks.proofs.row_count.Reads as row-count-reads
 
 row-count-requires : tie.Need-row-count-requires
 row-count-requires c κs = search needs

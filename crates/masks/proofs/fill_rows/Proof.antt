@@ -7,10 +7,6 @@ use Rattle.model.specs.Image.{rowCount}
 use Rattle.masks.proofs.Filling.{Filling, begin, row-here, row-small, one-more, filled-all}
 use Rattle.masks.proofs.fill_rows.Statement.{statement}
 use Rattle.masks.proofs.fill_rows.Tie as tie
-use Rattle.masks.proofs.fill_rows.Reads as reads
-use Rattle.masks.proofs.fill_rows.Lts as lts
-use Rattle.image.proofs.fields.Reads as fields-reads
-use Rattle.masks.proofs.masks_of.Reads as masks-of-reads
 
 abbrev Inv-loop : tie.InvT-loop
 Inv-loop image i uses₀ defs₀ leads₀ n r₀ uses defs leads r = (n ≡ rowCount i) × Filling image i r uses defs leads
@@ -19,13 +15,13 @@ abbrev μ-loop : tie.MeasureT-loop
 μ-loop image i uses₀ defs₀ leads₀ n r₀ uses defs leads r = n - r
 
 loop-holds : tie.Need-loop-holds Inv-loop μ-loop
-loop-holds c = search needs
+loop-holds c = (c .before .before .before .before .pre .usesSize, begin _ _ _ (c .before .before .before .before .pre))
 
 cast-fields : tie.Need-cast-fields Inv-loop μ-loop
 cast-fields c = search needs
 
 fields-requires : tie.Need-fields-requires Inv-loop μ-loop
-fields-requires c κs = search needs
+fields-requires c κs = row-here (c .before .loop .inv .1) (omega arith)
 
 masks-of-requires : tie.Need-masks-of-requires Inv-loop μ-loop
 masks-of-requires c κs = row-small _ _ (c .before .before .before .before .before .loop .inv .1) (c .before .before .before .fields .ensures)

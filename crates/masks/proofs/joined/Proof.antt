@@ -3,9 +3,6 @@ use borrow.Author.Needs.{needs}
 use Rattle.model.specs.Masks.{join}
 use Rattle.masks.proofs.joined.Statement.{statement}
 use Rattle.masks.proofs.joined.Tie as tie
-use Rattle.masks.proofs.joined.Reads as reads
-use Rattle.masks.proofs.joined.Lts as lts
-use Rattle.masks.proofs.mask.Reads as mask-reads
 
 mask-requires : tie.Need-mask-requires
 mask-requires c κs = search needs

@@ -4,12 +4,6 @@ use native.Mathlib.Omega.{arith}
 use Rattle.masks.proofs.ByCode.{at-variable, at-unary, at-bind, at-where, at-emit, at-receive, at-gets, at-of-type, at-item, at-communicate, at-to, at-then, at-select, at-case, at-arm, at-for, at-binary, at-vector, at-other, bit-variable, bit-bind, bit-gets, bit-of-type, bit-item, bit-to}
 use Rattle.masks.proofs.masks_of.Statement.{statement}
 use Rattle.masks.proofs.masks_of.Tie as tie
-use Rattle.masks.proofs.masks_of.Reads as reads
-use Rattle.masks.proofs.masks_of.Lts as lts
-use Rattle.masks.proofs.bit.Reads as bit-reads
-use Rattle.masks.proofs.joined.Reads as joined-reads
-use Rattle.masks.proofs.mask.Reads as mask-reads
-use Rattle.masks.proofs.without.Reads as without-reads
 
 bit-requires : tie.Need-bit-requires
 bit-requires c κs = bit-variable _ _ (c .before .before .before .before .pre) (c .match .keys1)

@@ -4,8 +4,6 @@ use native.Mathlib.Omega.{arith}
 use Rattle.image.proofs.Laid.{laid}
 use Rattle.masks.proofs.row_count.Statement.{statement}
 use Rattle.masks.proofs.row_count.Tie as tie
-use Rattle.masks.proofs.row_count.Reads as reads
-use Rattle.masks.proofs.row_count.Lts as lts
 
 cast-start : tie.Need-cast-start
 cast-start c = search needs

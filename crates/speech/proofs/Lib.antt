@@ -1,0 +1,11 @@
+pub mod Bits
+pub mod Codes
+pub mod Steps
+pub mod Places
+pub mod Expressions
+pub mod Sixty
+pub mod Catching
+pub mod Exhausted
+pub mod Row
+pub mod Pass
+pub mod States

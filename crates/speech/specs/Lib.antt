@@ -1,0 +1,4 @@
+pub mod Both
+pub mod Filled
+pub mod Case
+pub mod Verdict
