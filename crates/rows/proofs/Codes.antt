@@ -10,16 +10,17 @@ use Rattle.model.proofs.Bytes.{getD-table}
 use Rattle.rows.specs.declared.lines.Line.{Line}
 use Rattle.rows.specs.Lines.{digit, kindIn, Form, plains, formIn, formOf, Tells, unpacked, Table}
 
--- a code past the table is unknown
-either-line : (b : Bool) (s t : Shape) → b ≡ false → (elim b [ true ↦ s | false ↦ t ]) ≡ t
-either-line b s t e = rw e
+-- a case by an equal test
+pub either : {A : Type 0} (b c : Bool) (s t : A) → b ≡ c → _≡_ {A = A} (elim b [ true ↦ s | false ↦ t ]) (elim c [ true ↦ s | false ↦ t ])
+either b c s t e = rw e
 
+-- a code past the table is unknown
 lookup-past : (l : List Shape) (c : ℕ) → all (λ s. ltb (s .code) 61) l ≡ true → 61 ≤ c → lookup l c ≡ line c (another unknown) unused unused unused
 unfolding lookup all
 lookup-past [] c t h = refl
 lookup-past (s ∷ l) c t h =
     let p = and-eq-true-iff (ltb (s .code) 61) (all (λ s. ltb (s .code) 61) l) .0 t in
-    either-line (eqb c (s .code)) s (lookup l c) (ne-eqb c (s .code) (λ e. omega (arith, ltb-true (s .code) 61 (p .0)))) ∙ lookup-past l c (p .1) h
+    either (eqb c (s .code)) false s (lookup l c) (ne-eqb c (s .code) (λ e. omega (arith, ltb-true (s .code) 61 (p .0)))) ∙ lookup-past l c (p .1) h
 
 shape-past : (c : ℕ) → 61 ≤ c → shapeOf c ≡ line c (another unknown) unused unused unused
 unfolding shapeOf codes all

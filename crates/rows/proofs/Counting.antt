@@ -45,7 +45,7 @@ module _ (r : ℕ) where
 
 -- counts that say the same of each row
 module _ {l ms : List ℕ} (c : Counts l ms) (ns : List ℕ) where
-  pub same-counts : ((r : ℕ) → r < length l → occurs r ns ≡ occurs r ms) → Counts l ns
+  same-counts : ((r : ℕ) → r < length l → occurs r ns ≡ occurs r ms) → Counts l ns
   same-counts f = record { each = λ r h. c .each r h ∙ ap (min 2) (sym (f r h)) }
 
 -- one naming: of a row, and of none
@@ -78,7 +78,7 @@ module _ (l : List ℕ) (n : ℕ) where
 pub counted-none : (l : List ℕ) → Counted l l []
 counted-none l = record { exact = refl; also = λ ms c. same-counts c (ms ++ []) (λ r h. ap (occurs r) (append-nil ms)) }
 
-pub counted-then : {l m k ms ns : List ℕ} → Counted l m ms → Counted m k ns → Counted l k (ms ++ ns)
+counted-then : {l m k ms ns : List ℕ} → Counted l m ms → Counted m k ns → Counted l k (ms ++ ns)
 counted-then {ms = ms} {ns = ns} p q = record {
   exact = q .exact ∙ p .exact;
   also = λ js c. same-counts (q .also (js ++ ms) (p .also js c)) (js ++ (ms ++ ns)) (λ r h. ap (occurs r) (sym (append-assoc js ms ns)));

@@ -13,7 +13,7 @@ use Rattle.image.proofs.Laid.{laid, rows-count, types-count, states-count}
 use Rattle.rows.specs.declared.lines.Line.{Line}
 use Rattle.rows.specs.Lines.{digit, kindIn, Form, form, plains, plainIn, namings, namingIn, listings, listingIn, formIn, formOf, Tells}
 use Rattle.rows.specs.Judged.{Reading, Lined, lineFits}
-use Rattle.rows.proofs.Codes.{pick-other, pick-next}
+use Rattle.rows.proofs.Codes.{either, pick-other, pick-next}
 
 pub row-in : {s : List ℕ} {i : Image} → Located s i → (r : ℕ) → r < length (tablesOf s .rows) → RowOf s i r
 row-in l r h = record { located = l; inside = omega (arith, rows-count l) }
@@ -63,17 +63,14 @@ module _ (x : Tables) (r : ℕ) {w : Fields} {l : Line} (e : w ≡ fieldsOf x r)
       sym (next-by ∙ pick-other _ _ (shapeOf (w .code) .b) (λ q. g (t .b ∙ q)) ∙ pick-other _ _ (shapeOf (w .code) .c) (λ q. h (t .c ∙ q)))
 
 -- a list, row by row
-either-list : (b c : Bool) (p q : List ℕ) → b ≡ c → _≡_ {A = List ℕ} (elim b [ true ↦ p | false ↦ q ]) (elim c [ true ↦ p | false ↦ q ])
-either-list b c p q e = rw e
-
 module _ (x : Tables) (at : ℕ) where
   ended : (n : ℕ) → at ≡ none → listUpTo (suc n) x at ≡ []
   unfolding listUpTo
-  ended n e = either-list (eqb at none) true [] (at ∷ listUpTo n x (nextOf x at)) (eq-eqb at none e)
+  ended n e = either (eqb at none) true [] (at ∷ listUpTo n x (nextOf x at)) (eq-eqb at none e)
 
   goes-on : (n : ℕ) → (at ≡ none → ⊥) → listUpTo (suc n) x at ≡ at ∷ listUpTo n x (nextOf x at)
   unfolding listUpTo
-  goes-on n h = either-list (eqb at none) false [] (at ∷ listUpTo n x (nextOf x at)) (ne-eqb at none h)
+  goes-on n h = either (eqb at none) false [] (at ∷ listUpTo n x (nextOf x at)) (ne-eqb at none h)
 
   pub list-over : (left : ℕ) → at ≡ none → true ≡ listFits x left at
   unfolding listFits

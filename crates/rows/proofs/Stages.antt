@@ -4,7 +4,7 @@ use Prim.Native.Nat.{ℕ, _≤_, _<_}
 use lib.ListN.{length}
 use borrow.Author.Tests.{le-leb, lt-leb}
 use Rattle.model.specs.declared.{Image.Image, Refusal.Refusal, Refusal.the-variants.Malformed, Refusal.the-variants.NoAction, Refusal.the-variants.NoCondition, Refusal.the-variants.NotNamedOnce, Verdict.Verdict, Verdict.the-variants.Accepted, Verdict.the-variants.Refused}
-use Rattle.model.specs.Answers.{state, row, after, lowest, each}
+use Rattle.model.specs.Answers.{state, row, after, unless, lowest, each}
 use Rattle.model.specs.Image.{Tables, tablesOf}
 use Rattle.model.specs.Rows.{expression, formed, isRoot, namedOnce}
 use Rattle.model.specs.Calls.{rowsVerdict}
@@ -27,34 +27,43 @@ module _ (p : ℕ → Bool) (f : ℕ → Refusal) {k n m : ℕ} (e : n ≡ m) (l
   unfolding each
   stage-passes h = rw (← e, ← l, le-leb n k h)
 
-module _ (x : Tables) {n r : ℕ} (rows : n ≡ length (x .rows)) (five : r ≡ lowest (formed x) n) where
-  pub refused-5 : r < n → Refused (Malformed (row r)) ≡ rowsVerdict x
-  unfolding rowsVerdict
-  refused-5 h = sym (after-refused _ _ _ (stage-refuses (formed x) (λ k. Malformed (row k)) rows five h))
+-- what is left after 5, after the states, and after the condition
+module _ (x : Tables) where
+  abbrev pub from7 : Verdict
+  from7 = each (namedOnce x) (length (x .rows)) (λ r. NotNamedOnce (row r))
 
-  module _ (past-5 : n ≤ r) {m q : ℕ} (states : m ≡ length (x .states)) (six : q ≡ lowest (rooted x) m) where
-    after-5 : (v : Verdict) → after (each (formed x) (length (x .rows)) (λ k. Malformed (row k))) v ≡ v
-    after-5 v = after-accepted _ v (stage-passes (formed x) (λ k. Malformed (row k)) rows five past-5)
+  abbrev pub fromCondition : Verdict
+  fromCondition = after (unless (isRoot x expression (x .condition)) (NoCondition (length (x .states)))) from7
 
-    pub refused-6 : q < m → Refused (NoAction (state q)) ≡ rowsVerdict x
+  abbrev pub from6 : Verdict
+  from6 = after (each (rooted x) (length (x .states)) (λ s. NoAction (state s))) fromCondition
+
+  module _ {n r : ℕ} (e : n ≡ length (x .rows)) (l : r ≡ lowest (formed x) n) where
+    pub refused-5 : r < n → Refused (Malformed (row r)) ≡ rowsVerdict x
     unfolding rowsVerdict
-    refused-6 h = sym (after-5 _ ∙ after-refused _ _ _ (stage-refuses (rooted x) (λ k. NoAction (state k)) states six h))
+    refused-5 h = sym (after-refused _ from6 _ (stage-refuses (formed x) (λ k. Malformed (row k)) e l h))
 
-    module _ (past-6 : m ≤ q) {t : Bool} (condition : t ≡ isRoot x expression (x .condition)) where
-      after-6 : (v : Verdict) → after (each (rooted x) (length (x .states)) (λ k. NoAction (state k))) v ≡ v
-      after-6 v = after-accepted _ v (stage-passes (rooted x) (λ k. NoAction (state k)) states six past-6)
+    pub past-5 : n ≤ r → rowsVerdict x ≡ from6
+    unfolding rowsVerdict
+    past-5 h = after-accepted _ from6 (stage-passes (formed x) (λ k. Malformed (row k)) e l h)
 
-      pub refused-condition : t ≡ false → Refused (NoCondition m) ≡ rowsVerdict x
-      unfolding rowsVerdict
-      refused-condition h = sym (after-5 _ ∙ after-6 _ ∙ after-refused _ _ _ (rw (← condition, h, states)))
+  module _ {m q : ℕ} (e : m ≡ length (x .states)) (l : q ≡ lowest (rooted x) m) where
+    pub refused-6 : q < m → Refused (NoAction (state q)) ≡ from6
+    refused-6 h = sym (after-refused _ fromCondition _ (stage-refuses (rooted x) (λ k. NoAction (state k)) e l h))
 
-      module _ (past : t ≡ true) {z : ℕ} (seven : z ≡ lowest (namedOnce x) n) where
-        before-7 : rowsVerdict x ≡ each (namedOnce x) (length (x .rows)) (λ k. NotNamedOnce (row k))
-        unfolding rowsVerdict
-        before-7 = after-5 _ ∙ after-6 _ ∙ after-accepted _ _ (rw (← condition, past))
+    pub past-6 : m ≤ q → from6 ≡ fromCondition
+    past-6 h = after-accepted _ fromCondition (stage-passes (rooted x) (λ k. NoAction (state k)) e l h)
 
-        pub refused-7 : z < n → Refused (NotNamedOnce (row z)) ≡ rowsVerdict x
-        refused-7 h = sym (before-7 ∙ stage-refuses (namedOnce x) (λ k. NotNamedOnce (row k)) rows seven h)
+  module _ {t : Bool} (e : t ≡ isRoot x expression (x .condition)) where
+    pub refused-condition : {m : ℕ} → m ≡ length (x .states) → t ≡ false → Refused (NoCondition m) ≡ fromCondition
+    refused-condition s h = sym (after-refused _ from7 _ (rw (← e, h, s)))
 
-        pub accepted : n ≤ z → Accepted ≡ rowsVerdict x
-        accepted h = sym (before-7 ∙ stage-passes (namedOnce x) (λ k. NotNamedOnce (row k)) rows seven h)
+    pub past-condition : t ≡ true → fromCondition ≡ from7
+    past-condition h = after-accepted _ from7 (rw (← e, h))
+
+  module _ {n r : ℕ} (e : n ≡ length (x .rows)) (l : r ≡ lowest (namedOnce x) n) where
+    pub refused-7 : r < n → Refused (NotNamedOnce (row r)) ≡ from7
+    refused-7 h = sym (stage-refuses (namedOnce x) (λ k. NotNamedOnce (row k)) e l h)
+
+    pub accepted : n ≤ r → Accepted ≡ from7
+    accepted h = sym (stage-passes (namedOnce x) (λ k. NotNamedOnce (row k)) e l h)

@@ -99,6 +99,22 @@ fn names_list(
     names(image, i, lines, r, k, n) & list_fits(image, i, lines, most, n)
 }
 
+// The same, or none.
+fn names_list_or_none(
+    image: &[u8],
+    i: Image,
+    lines: &[u32; CODES],
+    r: u16,
+    k: u32,
+    most: u16,
+    n: u16,
+) -> bool
+    requires { ⌜ Below (now image) (now lines) i r ⌝ }
+    ensures { λ b. ⌜ ((j : Kind) → k ≡ numberOfKind j → b ≡ (eqb n none || (names (tablesOf (now (image .entry))) r j n && listFits (tablesOf (now (image .entry))) most n))) ⌝ }
+{
+    (n == NONE) | names_list(image, i, lines, r, k, most, n)
+}
+
 // A value of type t.
 fn value_fits(image: &[u8], i: Image, t: u16, n: u16) -> bool
     requires { ⌜ Located (now image) i ⌝ }
@@ -178,15 +194,15 @@ fn listing_fits(image: &[u8], i: Image, lines: &[u32; CODES], r: u16, w: Fields,
             & (w.c == 0),
         // 52
         2 => (w.a < i.gates)
-            & ((w.b == NONE) | names_list(image, i, lines, r, l.b, Image::VECTOR, w.b))
+            & names_list_or_none(image, i, lines, r, l.b, Image::VECTOR, w.b)
             & (w.c == 0),
         // 55
-        3 => ((w.a == NONE) | names_list(image, i, lines, r, l.a, Image::BRANCHES, w.a))
+        3 => names_list_or_none(image, i, lines, r, l.a, Image::BRANCHES, w.a)
             & (w.b == 0)
             & (w.c == 0),
         // 56
         _ => names(image, i, lines, r, l.a, w.a)
-            & ((w.b == NONE) | names_list(image, i, lines, r, l.b, Image::BRANCHES, w.b))
+            & names_list_or_none(image, i, lines, r, l.b, Image::BRANCHES, w.b)
             & (w.c == 0),
     }
 }

@@ -20,6 +20,7 @@ use image::state_row;
 use model::Fields;
 use model::Image;
 
+// One more, up to 2.
 fn more(c: u8) -> u8
     ensures { λ r. ⌜ r ≡ min 2 (c + 1) ⌝ }
 {
@@ -46,6 +47,7 @@ fn count_field(counts: &mut [u8], d: u32, n: u16)
     }
 }
 
+// The namings by the fields of a row.
 fn count_row(counts: &mut [u8], lines: &[u32; CODES], w: Fields)
     requires { ⌜ (length (now counts) ≤ none) × Table (now lines) ⌝ }
     ensures { λ _. ⌜ Counted (now (counts .entry)) (now (counts .exit)) (namedIn w) ⌝ }
@@ -56,6 +58,7 @@ fn count_row(counts: &mut [u8], lines: &[u32; CODES], w: Fields)
     count_field(counts, l.c, w.c);
 }
 
+// The namings by all rows.
 fn count_rows(counts: &mut [u8], image: &[u8], i: Image, lines: &[u32; CODES])
     requires { ⌜ (length (now counts) ≤ none) × Reading (now image) (now lines) i ⌝ }
     ensures { λ _. ⌜ Counted (now (counts .entry)) (now (counts .exit)) (namedByRows (tablesOf (now (image .entry)) .rows)) ⌝ }
@@ -69,6 +72,7 @@ fn count_rows(counts: &mut [u8], image: &[u8], i: Image, lines: &[u32; CODES])
     }
 }
 
+// The namings by all states.
 fn count_states(counts: &mut [u8], image: &[u8], i: Image)
     requires { ⌜ Located (now image) i ⌝ }
     ensures { λ _. ⌜ Counted (now (counts .entry)) (now (counts .exit)) (tablesOf (now (image .entry)) .states) ⌝ }

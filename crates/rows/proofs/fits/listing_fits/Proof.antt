@@ -4,8 +4,8 @@ use native.Mathlib.Omega.{arith}
 use mathlib.Core.Path.{refl, sym}
 use Rattle.model.specs.Rows.{fieldFits}
 use Rattle.image.proofs.Laid.{gates-count}
-use Rattle.rows.specs.Lines.{kindIn, listings}
-use Rattle.rows.proofs.Fields.{below, or-none, listing-shown, listing-last, by-form}
+use Rattle.rows.specs.Lines.{listings}
+use Rattle.rows.proofs.Fields.{below, listing-shown, listing-last, by-form}
 use Rattle.rows.proofs.fits.listing_fits.Statement.{statement}
 use Rattle.rows.proofs.fits.listing_fits.Tie as tie
 
@@ -18,47 +18,52 @@ names-list-requires-2 c κs = search needs
 names-or-none-requires : tie.Need-names-or-none-requires
 names-or-none-requires c κs = search needs
 
-names-list-requires-3 : tie.Need-names-list-requires-3
-names-list-requires-3 c κs = search needs
+names-list-or-none-requires : tie.Need-names-list-or-none-requires
+names-list-or-none-requires c κs = search needs
 
-names-list-requires-4 : tie.Need-names-list-requires-4
-names-list-requires-4 c κs = search needs
+names-list-or-none-requires-2 : tie.Need-names-list-or-none-requires-2
+names-list-or-none-requires-2 c κs = search needs
 
 names-requires : tie.Need-names-requires
 names-requires c κs = search needs
 
-names-list-requires-5 : tie.Need-names-list-requires-5
-names-list-requires-5 c κs = search needs
+names-list-or-none-requires-3 : tie.Need-names-list-or-none-requires-3
+names-list-or-none-requires-3 c κs = search needs
 
 returns : tie.Need-returns
 unfolding listings fieldFits
 returns c =
-    let p = (listing-shown (c .before .before .before .before .before .before .args .w) _ (c .before .before .before .before .before .before .pre .0 .line) _ (c .before .before .before .match .keys1) (c .before .before .before .before .before .before .pre .1)) in
+    let s = c .before .before .before .before .before .before in
+    let p = listing-shown (s .args .w) _ (s .pre .0 .line) _ (c .before .before .before .match .keys1) (s .pre .1) in
     by-form p _ _ _ _ _ (c .before .before .names-list .ensures _ (p .a)) refl refl
 
 returns-2 : tie.Need-returns-2
 unfolding listings fieldFits
 returns-2 c =
-    let p = (listing-shown (c .before .before .before .before .before .before .args .w) _ (c .before .before .before .before .before .before .pre .0 .line) _ (c .before .before .before .match .keys2) (c .before .before .before .before .before .before .pre .1)) in
+    let s = c .before .before .before .before .before .before in
+    let p = listing-shown (s .args .w) _ (s .pre .0 .line) _ (c .before .before .before .match .keys2) (s .pre .1) in
     by-form p _ _ _ _ _ (c .before .before .names-list2 .ensures _ (p .a)) (c .before .names-or-none .ensures _ (p .b)) refl
 
 returns-3 : tie.Need-returns-3
 unfolding listings fieldFits
 returns-3 c =
-    let p = (listing-shown (c .before .before .before .before .before .before .before .before .args .w) _ (c .before .before .before .before .before .before .before .before .pre .0 .line) _ (c .before .before .before .before .before .match .keys3) (c .before .before .before .before .before .before .before .before .pre .1)) in
-    by-form p _ _ _ _ _ (below _ (sym (gates-count (c .before .before .before .before .before .before .before .before .pre .0 .below .reading .located)))) (or-none (c .before .before .before .before .before .before .before .before .args .w .b) (c .before .names-list3 .ensures (kindIn (c .before .before .before .before .before .before .before .before .args .l .b)) (p .b))) refl
+    let s = c .before .before .before .before .before .before .before in
+    let p = listing-shown (s .args .w) _ (s .pre .0 .line) _ (c .before .before .before .before .match .keys3) (s .pre .1) in
+    by-form p _ _ _ _ _ (below _ (sym (gates-count (s .pre .0 .below .reading .located)))) (c .before .names-list-or-none .ensures _ (p .b)) refl
 
 returns-4 : tie.Need-returns-4
 unfolding listings fieldFits
 returns-4 c =
-    let p = (listing-shown (c .before .before .before .before .before .before .before .args .w) _ (c .before .before .before .before .before .before .before .pre .0 .line) _ (c .before .before .before .before .match .keys4) (c .before .before .before .before .before .before .before .pre .1)) in
-    by-form p _ _ _ _ _ (or-none (c .before .before .before .before .before .before .before .args .w .a) (c .before .before .names-list4 .ensures (kindIn (c .before .before .before .before .before .before .before .args .l .a)) (p .a))) refl refl
+    let s = c .before .before .before .before .before .before in
+    let p = listing-shown (s .args .w) _ (s .pre .0 .line) _ (c .before .before .before .match .keys4) (s .pre .1) in
+    by-form p _ _ _ _ _ (c .before .before .names-list-or-none2 .ensures _ (p .a)) refl refl
 
 returns-5 : tie.Need-returns-5
 unfolding fieldFits
 returns-5 c =
-    let p = listing-last (c .before .before .before .before .before .before .before .args .w) _ (c .before .before .before .before .before .before .before .pre .0 .line) (omega (arith, c .before .before .before .before .match .rest)) (c .before .before .before .before .before .before .before .pre .1) in
-    by-form p _ _ _ _ _ (c .before .before .before .names .ensures _ (p .a)) (or-none (c .before .before .before .before .before .before .before .args .w .b) (c .before .names-list5 .ensures (kindIn (c .before .before .before .before .before .before .before .args .l .b)) (p .b))) refl
+    let s = c .before .before .before .before .before .before in
+    let p = listing-last (s .args .w) _ (s .pre .0 .line) (omega (arith, c .before .before .before .match .rest)) (s .pre .1) in
+    by-form p _ _ _ _ _ (c .before .before .names .ensures _ (p .a)) (c .before .names-list-or-none3 .ensures _ (p .b)) refl
 
 pub listing-fits-spec : {M : Type 1} → statement M
 listing-fits-spec =
@@ -67,10 +72,10 @@ listing-fits-spec =
     names-list-requires
     names-list-requires-2
     names-or-none-requires
-    names-list-requires-3
-    names-list-requires-4
+    names-list-or-none-requires
+    names-list-or-none-requires-2
     names-requires
-    names-list-requires-5
+    names-list-or-none-requires-3
     returns
     returns-2
     returns-3

@@ -59,44 +59,51 @@ names-or-none-requires-5 c κs = search needs
 returns : tie.Need-returns
 unfolding namings fieldFits
 returns c =
-    let p = (naming-shown (c .before .before .before .before .before .before .args .w) _ (c .before .before .before .before .before .before .pre .0 .line) _ (c .before .before .before .match .keys1) (c .before .before .before .before .before .before .pre .1)) in
+    let s = c .before .before .before .before .before .before in
+    let p = naming-shown (s .args .w) _ (s .pre .0 .line) _ (c .before .before .before .match .keys1) (s .pre .1) in
     by-form p _ _ _ _ _ (c .before .before .names .ensures _ (p .a)) refl refl
 
 returns-2 : tie.Need-returns-2
 unfolding namings fieldFits
 returns-2 c =
-    let p = (naming-shown (c .before .before .before .before .before .before .args .w) _ (c .before .before .before .before .before .before .pre .0 .line) _ (c .before .before .before .match .keys2) (c .before .before .before .before .before .before .pre .1)) in
+    let s = c .before .before .before .before .before .before in
+    let p = naming-shown (s .args .w) _ (s .pre .0 .line) _ (c .before .before .before .match .keys2) (s .pre .1) in
     by-form p _ _ _ _ _ (c .before .before .names2 .ensures _ (p .a)) (c .before .names3 .ensures _ (p .b)) refl
 
 returns-3 : tie.Need-returns-3
 unfolding namings fieldFits
 returns-3 c =
-    let p = (naming-shown (c .before .before .before .before .before .before .args .w) _ (c .before .before .before .before .before .before .pre .0 .line) _ (c .before .before .before .match .keys3) (c .before .before .before .before .before .before .pre .1)) in
-    by-form p _ _ _ _ _ (c .before .before .names4 .ensures _ (p .a)) (c .before .names-or-none .ensures _ (own (c .before .before .before .before .before .before .pre .0))) refl
+    let s = c .before .before .before .before .before .before in
+    let p = naming-shown (s .args .w) _ (s .pre .0 .line) _ (c .before .before .before .match .keys3) (s .pre .1) in
+    by-form p _ _ _ _ _ (c .before .before .names4 .ensures _ (p .a)) (c .before .names-or-none .ensures _ (own (s .pre .0))) refl
 
 returns-4 : tie.Need-returns-4
 unfolding namings fieldFits
 returns-4 c =
-    let p = (naming-shown (c .before .before .before .before .before .before .before .args .w) _ (c .before .before .before .before .before .before .before .pre .0 .line) _ (c .before .before .before .before .match .keys4) (c .before .before .before .before .before .before .before .pre .1)) in
-    by-form p _ _ _ _ _ (below _ (c .before .before .before .variable-count .ensures)) (c .before .names-or-none2 .ensures _ (own (c .before .before .before .before .before .before .before .pre .0))) refl
+    let s = c .before .before .before .before .before .before .before in
+    let p = naming-shown (s .args .w) _ (s .pre .0 .line) _ (c .before .before .before .before .match .keys4) (s .pre .1) in
+    by-form p _ _ _ _ _ (below _ (c .before .before .before .variable-count .ensures)) (c .before .names-or-none2 .ensures _ (own (s .pre .0))) refl
 
 returns-5 : tie.Need-returns-5
 unfolding namings fieldFits
 returns-5 c =
-    let p = (naming-shown (c .before .before .before .before .before .before .before .before .args .w) _ (c .before .before .before .before .before .before .before .before .pre .0 .line) _ (c .before .before .before .before .before .match .keys5) (c .before .before .before .before .before .before .before .before .pre .1)) in
-    by-form p _ _ _ _ _ (below _ (c .before .before .before .before .variable-count2 .ensures)) (below _ (c .before .before .type-count .ensures)) (c .names-or-none3 .ensures _ (own (c .before .before .before .before .before .before .before .before .pre .0)))
+    let s = c .before .before .before .before .before .before .before .before in
+    let p = naming-shown (s .args .w) _ (s .pre .0 .line) _ (c .before .before .before .before .before .match .keys5) (s .pre .1) in
+    by-form p _ _ _ _ _ (below _ (c .before .before .before .before .variable-count2 .ensures)) (below _ (c .before .before .type-count .ensures)) (c .names-or-none3 .ensures _ (own (s .pre .0)))
 
 returns-6 : tie.Need-returns-6
 unfolding namings fieldFits
 returns-6 c =
-    let p = (naming-shown (c .before .before .before .before .before .before .before .args .w) _ (c .before .before .before .before .before .before .before .pre .0 .line) _ (c .before .before .before .before .match .keys6) (c .before .before .before .before .before .before .before .pre .1)) in
-    by-form p _ _ _ _ _ (below _ (c .before .before .before .variable-count3 .ensures)) (c .before .names5 .ensures _ (p .b)) (c .names-or-none4 .ensures _ (own (c .before .before .before .before .before .before .before .pre .0)))
+    let s = c .before .before .before .before .before .before .before in
+    let p = naming-shown (s .args .w) _ (s .pre .0 .line) _ (c .before .before .before .before .match .keys6) (s .pre .1) in
+    by-form p _ _ _ _ _ (below _ (c .before .before .before .variable-count3 .ensures)) (c .before .names5 .ensures _ (p .b)) (c .names-or-none4 .ensures _ (own (s .pre .0)))
 
 returns-7 : tie.Need-returns-7
 unfolding fieldFits
 returns-7 c =
-    let p = naming-last (c .before .before .before .before .before .before .args .w) _ (c .before .before .before .before .before .before .pre .0 .line) (omega (arith, c .before .before .before .match .rest)) (c .before .before .before .before .before .before .pre .1) in
-    by-form p _ _ _ _ _ (c .before .before .names6 .ensures _ (p .a)) (c .before .names7 .ensures _ (p .b)) (c .names-or-none5 .ensures _ (own (c .before .before .before .before .before .before .pre .0)))
+    let s = c .before .before .before .before .before .before in
+    let p = naming-last (s .args .w) _ (s .pre .0 .line) (omega (arith, c .before .before .before .match .rest)) (s .pre .1) in
+    by-form p _ _ _ _ _ (c .before .before .names6 .ensures _ (p .a)) (c .before .names7 .ensures _ (p .b)) (c .names-or-none5 .ensures _ (own (s .pre .0)))
 
 pub naming-fits-spec : {M : Type 1} → statement M
 naming-fits-spec =

@@ -28,27 +28,39 @@ state-count-requires c κs = search needs
 
 returns : tie.Need-returns
 unfolding plains fieldFits
-returns c r = by-form (plain-shown (c .before .before .before .before .before .before .args .w) _ (c .before .before .before .before .before .before .pre .1) _ (c .before .before .before .match .keys1) (c .before .before .before .before .before .before .pre .2)) _ _ _ _ _ refl refl refl
+returns c r =
+    let s = c .before .before .before .before .before .before in
+    by-form (plain-shown (s .args .w) _ (s .pre .1) _ (c .before .before .before .match .keys1) (s .pre .2)) _ _ _ _ _ refl refl refl
 
 returns-2 : tie.Need-returns-2
 unfolding plains fieldFits
-returns-2 c r = by-form (plain-shown (c .before .before .before .before .before .before .before .args .w) _ (c .before .before .before .before .before .before .before .pre .1) _ (c .before .before .before .before .match .keys2) (c .before .before .before .before .before .before .before .pre .2)) _ _ _ _ _ (below _ (c .before .before .before .variable-count .ensures)) refl refl
+returns-2 c r =
+    let s = c .before .before .before .before .before .before .before in
+    by-form (plain-shown (s .args .w) _ (s .pre .1) _ (c .before .before .before .before .match .keys2) (s .pre .2)) _ _ _ _ _ (below _ (c .before .before .before .variable-count .ensures)) refl refl
 
 returns-3 : tie.Need-returns-3
 unfolding plains fieldFits
-returns-3 c r = by-form (plain-shown (c .before .before .before .before .before .before .before .args .w) _ (c .before .before .before .before .before .before .before .pre .1) _ (c .before .before .before .before .match .keys3) (c .before .before .before .before .before .before .before .pre .2)) _ _ _ _ _ (below _ (c .before .before .before .type-count .ensures)) (c .before .value-fits .ensures) refl
+returns-3 c r =
+    let s = c .before .before .before .before .before .before .before in
+    by-form (plain-shown (s .args .w) _ (s .pre .1) _ (c .before .before .before .before .match .keys3) (s .pre .2)) _ _ _ _ _ (below _ (c .before .before .before .type-count .ensures)) (c .before .value-fits .ensures) refl
 
 returns-4 : tie.Need-returns-4
 unfolding plains fieldFits
-returns-4 c r = by-form (plain-shown (c .before .before .before .before .before .before .before .args .w) _ (c .before .before .before .before .before .before .before .pre .1) _ (c .before .before .before .before .match .keys4) (c .before .before .before .before .before .before .before .pre .2)) _ _ _ _ _ (below _ (c .before .before .before .type-count2 .ensures)) refl refl
+returns-4 c r =
+    let s = c .before .before .before .before .before .before .before in
+    by-form (plain-shown (s .args .w) _ (s .pre .1) _ (c .before .before .before .before .match .keys4) (s .pre .2)) _ _ _ _ _ (below _ (c .before .before .before .type-count2 .ensures)) refl refl
 
 returns-5 : tie.Need-returns-5
 unfolding plains fieldFits
-returns-5 c r = by-ends (plain-shown (c .before .before .before .before .before .before .args .w) _ (c .before .before .before .before .before .before .pre .1) _ (c .before .before .before .match .keys5) (c .before .before .before .before .before .before .pre .2)) _ _ _ _ (below _ (c .before .before .variable-count2 .ensures)) refl refl
+returns-5 c r =
+    let s = c .before .before .before .before .before .before in
+    by-ends (plain-shown (s .args .w) _ (s .pre .1) _ (c .before .before .before .match .keys5) (s .pre .2)) _ _ _ _ (below _ (c .before .before .variable-count2 .ensures)) refl refl
 
 returns-6 : tie.Need-returns-6
 unfolding fieldFits
-returns-6 c r = by-form (plain-last (c .before .before .before .before .before .before .before .args .w) _ (c .before .before .before .before .before .before .before .pre .1) (omega (arith, c .before .before .before .before .match .rest)) (c .before .before .before .before .before .before .before .pre .2)) _ _ _ _ _ (below _ (c .before .before .before .state-count .ensures)) refl refl
+returns-6 c r =
+    let s = c .before .before .before .before .before .before .before in
+    by-form (plain-last (s .args .w) _ (s .pre .1) (omega (arith, c .before .before .before .before .match .rest)) (s .pre .2)) _ _ _ _ _ (below _ (c .before .before .before .state-count .ensures)) refl refl
 
 pub plain-fits-spec : {M : Type 1} → statement M
 plain-fits-spec =

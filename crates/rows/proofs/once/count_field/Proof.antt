@@ -12,7 +12,9 @@ same-length : tie.Need-same-length
 same-length c = search needs
 
 returns : tie.Need-returns
-returns c f e = counted-field _ (c .before .before .count .ensures) (c .before .before .before .before .before .before .pre) f (λ q. c .before .before .before .before .if1 .taken (e ∙ q))
+returns c f e =
+    let s = c .before .before .before .before .before .before in
+    counted-field _ (c .before .before .count .ensures) (s .pre) f (λ q. c .before .before .before .before .if1 .taken (e ∙ q))
 
 returns-2 : tie.Need-returns-2
 returns-2 c f e = counted-plain _ _ f (sym e ∙ c .if1 .left)

@@ -21,8 +21,11 @@ same-length c = search needs
 
 returns : tie.Need-returns
 returns c =
-    let t = c .before .before .before .before .before .before .before .before .before .before .before .before .line-of .ensures in
-    counted-row _ (c .before .before .before .before .before .before .before .before .before .before .count-field .ensures _ (t .a)) (c .before .before .before .before .before .before .count-field2 .ensures _ (t .b)) (c .before .before .count-field3 .ensures _ (t .c))
+    let third = c .before .before in
+    let second = third .before .before .before .before in
+    let first = second .before .before .before .before in
+    let t = first .before .before .line-of .ensures in
+    counted-row _ (first .count-field .ensures _ (t .a)) (second .count-field2 .ensures _ (t .b)) (third .count-field3 .ensures _ (t .c))
 
 pub count-row-spec : {M : Type 1} → statement M
 count-row-spec =

@@ -27,7 +27,9 @@ fields-requires : tie.Need-fields-requires Inv-loop μ-loop
 fields-requires c κs = row-in (c .before .before .before .before .before .pre .1 .located) _ (omega (arith, c .before .before .row-count .ensures))
 
 count-row-requires : tie.Need-count-row-requires Inv-loop μ-loop
-count-row-requires c κs = (omega (arith, c .before .before .before .loop .inv .exact, c .before .before .before .before .before .before .before .pre .0), c .before .before .before .before .before .before .before .pre .1 .lines)
+count-row-requires c κs =
+    let s = c .before .before .before .before .before .before .before in
+    (omega (arith, c .before .before .before .loop .inv .exact, s .pre .0), s .pre .1 .lines)
 
 add-r : tie.Need-add-r Inv-loop μ-loop
 add-r c = search needs
@@ -37,14 +39,19 @@ loop-less c = search needs
 
 loop-again : tie.Need-loop-again Inv-loop μ-loop
 loop-again c =
-    rows-turn (tablesOf (c .before .before .before .before .before .before .before .before .before .before .args .image .now)) _ (c .before .before .before .before .before .before .loop .inv) (omega (arith, c .before .before .before .before .before .loop-test .taken, c .before .before .before .before .before .before .before .row-count .ensures)) (c .before .before .before .before .fields .ensures)
-    (c .before .before .count-row .ensures)
+    let read = c .before .before .before .before in
+    let head = read .before .before in
+    let s = head .before .before .before .before in
+    rows-turn (tablesOf (s .args .image .now)) _ (head .loop .inv)
+    (omega (arith, read .before .loop-test .taken, head .before .row-count .ensures)) (read .fields .ensures) (c .before .before .count-row .ensures)
 
 same-length : tie.Need-same-length Inv-loop μ-loop
 same-length c = c .before .loop .inv .exact
 
 returns : tie.Need-returns Inv-loop μ-loop
-returns c = rows-end (tablesOf (c .before .before .before .before .before .args .image .now)) (c .before .loop .r) (c .before .loop .inv) (omega (arith, c .loop-test .left, c .before .before .row-count .ensures))
+returns c =
+    let rows = c .before .before in
+    rows-end (tablesOf (rows .before .before .before .args .image .now)) (c .before .loop .r) (c .before .loop .inv) (omega (arith, c .loop-test .left, rows .row-count .ensures))
 
 pub count-rows-spec : {M : Type 1} → statement M
 count-rows-spec =

@@ -36,14 +36,19 @@ loop-less c = search needs
 
 loop-again : tie.Need-loop-again Inv-loop μ-loop
 loop-again c =
-    states-turn (tablesOf (c .before .before .before .before .before .before .before .before .before .before .args .image .now)) _ _ (c .before .before .before .before .before .before .loop .inv) (omega (arith, c .before .before .before .before .before .loop-test .taken, c .before .before .before .before .before .before .before .state-count .ensures)) (c .before .before .before .before .state-row .ensures)
-    (c .before .before .count .ensures)
+    let read = c .before .before .before .before in
+    let head = read .before .before in
+    let s = head .before .before .before .before in
+    states-turn (tablesOf (s .args .image .now)) _ _ (head .loop .inv)
+    (omega (arith, read .before .loop-test .taken, head .before .state-count .ensures)) (read .state-row .ensures) (c .before .before .count .ensures)
 
 same-length : tie.Need-same-length Inv-loop μ-loop
 same-length c = c .before .loop .inv .exact
 
 returns : tie.Need-returns Inv-loop μ-loop
-returns c = states-end (tablesOf (c .before .before .before .before .before .args .image .now)) (c .before .loop .q) (c .before .loop .inv) (omega (arith, c .loop-test .left, c .before .before .state-count .ensures))
+returns c =
+    let states = c .before .before in
+    states-end (tablesOf (states .before .before .before .args .image .now)) (c .before .loop .q) (c .before .loop .inv) (omega (arith, c .loop-test .left, states .state-count .ensures))
 
 pub count-states-spec : {M : Type 1} → statement M
 count-states-spec =

@@ -23,8 +23,12 @@ same-length c = search needs
 
 returns : tie.Need-returns
 returns c =
-    lowest-named (tablesOf (c .before .before .before .before .before .before .before .before .before .before .before .before .before .before .before .before .args .image .now)) (c .before .before .before .before .before .before .before .before .before .before .before .before .before .before .before .before .pre .1) (c .before .before .before .before .before .before .before .before .before .before .before .before .count-rows .ensures) (c .before .before .before .before .before .before .before .before .count-states .ensures)
-    (condition-is (c .before .before .before .before .before .before .before .before .before .before .before .before .before .before .before .before .pre .0 .located)) (c .before .before .before .before .count .ensures) (c .not-one .ensures)
+    let third = c .before .before .before .before in
+    let second = third .before .before .before .before in
+    let first = second .before .before .before .before in
+    let s = first .before .before .before .before in
+    lowest-named (tablesOf (s .args .image .now)) (s .pre .1) (first .count-rows .ensures) (second .count-states .ensures)
+    (condition-is (s .pre .0 .located)) (third .count .ensures) (c .not-one .ensures)
 
 pub not-once-by-spec : {M : Type 1} → statement M
 not-once-by-spec =
