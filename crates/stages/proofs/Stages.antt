@@ -1,0 +1,205 @@
+-- What the stages give and what the next ones are asked. Assumes nothing.
+use mathlib.Core.{Path._≡_, Path.refl, Path.sym, Path.ap, Path._∙_, Bool.Bool, Bool.true, List.List}
+use Prim.Native.Nat.{ℕ, _-_, _/_, _≤_, _<_}
+use native.Mathlib.Omega.{arith}
+use lib.{Dec.leb, ListN.length, ListN.getD}
+use borrow.Author.Tests.{leb-true, lt-leb, le-leb}
+use Rattle.model.specs.declared.{Image.Image, Verdict.Verdict, Verdict.the-variants.Accepted, Verdict.the-variants.Refused, Refusal.Refusal, Refusal.the-variants.ImageLength, Refusal.the-variants.MarkOrLength, Refusal.the-variants.Starts, Refusal.the-variants.Entries, Refusal.the-variants.Malformed, Refusal.the-variants.NoAction, Refusal.the-variants.NoCondition, Refusal.the-variants.Typing, Refusal.the-variants.Binding, Refusal.the-variants.SetsShort}
+use Rattle.model.specs.Answers.{state, row, after, unless, each}
+use Rattle.model.specs.Image.{Tables, none, lengthFits, marked, trailerOf, startsFit, tablesOf, entriesRight, rowCount, stateCount}
+use Rattle.model.specs.Rows.{action, expression, formed, isRoot}
+use Rattle.model.specs.Typing.{typed}
+use Rattle.model.specs.Binding.{bound}
+use Rattle.model.specs.Calls.{rowsVerdict, rulesVerdict, flowVerdict, checkVerdict}
+use Rattle.model.proofs.Rows.{both-true}
+use Rattle.model.proofs.Order.{after-accepted, after-refused, after-assoc, after-both, unless-true, each-all}
+use Rattle.image.specs.Located.{Located, Formed, Rooted, headerVerdict}
+use Rattle.masks.specs.Masks.{Filled}
+use Rattle.masks.specs.Rows.{Lent as MasksLent}
+use Rattle.binding.specs.Bound.{bindingVerdict, Masked as BindingMasked}
+use Rattle.sets.specs.States.{Lending, Room, Found as SetsFound}
+use Rattle.image.proofs.Laid.{laid, states-count}
+use Rattle.typing.specs.Rules.{typingVerdict}
+use Rattle.stages.specs.Judging.{tablesVerdict, Lent, Ruled, Masked, foundVerdict, Found, Flowing, Gives, roomVerdict, Treeing, treesVerdict, Scratch}
+use Rattle.stages.proofs.Order.{image-is}
+use Rattle.speech.specs.Verdict.{speechVerdict}
+use Rattle.speech.specs.Filled.{Lent as SpeechLent}
+
+record Header (s : List ℕ) : Type 0 where
+  long : lengthFits s ≡ true
+  marked : marked s ≡ true
+  starts : startsFit (trailerOf s) ≡ true
+  entries : entriesRight (tablesOf s) ≡ true
+
+header-passed : (s : List ℕ) → headerVerdict s ≡ Accepted → Header s
+unfolding headerVerdict
+header-passed s e =
+    let a = after-both (unless (lengthFits s) ImageLength) _ e in
+    let b = after-both (unless (marked s) MarkOrLength) _ (a .1) in
+    let c = after-both (unless (startsFit (trailerOf s)) Starts) _ (b .1) in
+    record {
+      long = unless-true _ ImageLength (a .0);
+      marked = unless-true _ MarkOrLength (b .0);
+      starts = unless-true _ Starts (c .0);
+      entries = unless-true _ Entries (c .1);
+    }
+
+pub trailer-inside : (s : List ℕ) → headerVerdict s ≡ Accepted → 16 ≤ length s
+unfolding lengthFits
+trailer-inside s e = omega (arith, leb-true 38 (length s) (both-true (leb 38 (length s)) _ (header-passed s e .long) .0))
+
+pub located-of : (s : List ℕ) (i : Image) → i ≡ trailerOf s → headerVerdict s ≡ Accepted → Located s i
+located-of s i e h =
+    let p = header-passed s h in
+    record { trailer = e; long = p .long; marked = p .marked; starts = rw e (p .starts) }
+
+-- 1 to 7
+pub tables-refused : (s : List ℕ) (y : Refusal) → headerVerdict s ≡ Refused y → Refused y ≡ tablesVerdict s
+unfolding tablesVerdict
+tables-refused s y e = sym (after-refused (headerVerdict s) _ y e)
+
+pub tables-rows : (s : List ℕ) (v : Verdict) → headerVerdict s ≡ Accepted → v ≡ rowsVerdict (tablesOf s) → v ≡ tablesVerdict s
+unfolding tablesVerdict
+tables-rows s v e f = f ∙ sym (after-accepted (headerVerdict s) _ e)
+
+-- what an image free of 1 to 7 has
+pub rooted-of : (s : List ℕ) (i : Image) → i ≡ trailerOf s → tablesVerdict s ≡ Accepted → Rooted s i
+unfolding tablesVerdict rowsVerdict
+rooted-of s i e v =
+    let x = tablesOf s in
+    let a = after-both (headerVerdict s) (rowsVerdict x) v in
+    let g = after-both (each (formed x) (length (x .rows)) (λ r. Malformed (row r))) _ (a .1) in
+    let h = after-both (each (λ q. isRoot x action (getD (x .states) q none)) (length (x .states)) (λ q. NoAction (state q))) _ (g .1) in
+    let k = after-both (unless (isRoot x expression (x .condition)) (NoCondition (length (x .states)))) _ (h .1) in
+    record {
+      formed = record {
+        located = located-of s i e (a .0);
+        entries = header-passed s (a .0) .entries;
+        rows = each-all (formed x) (length (x .rows)) _ (g .0);
+      };
+      states = each-all (λ q. isRoot x action (getD (x .states) q none)) (length (x .states)) _ (h .0);
+      condition = unless-true _ (NoCondition (length (x .states))) (k .0);
+    }
+
+-- 8 and 9
+pub rules-refused : (x : Tables) (y : Refusal) → typingVerdict x ≡ Refused y → Refused y ≡ rulesVerdict x
+unfolding rulesVerdict typingVerdict
+rules-refused x y e = sym (after-refused (each (typed x) (length (x .rows)) (λ r. Typing (row r))) _ y e)
+
+pub rules-binding : (x : Tables) (v : Verdict) → typingVerdict x ≡ Accepted → v ≡ bindingVerdict x → v ≡ rulesVerdict x
+unfolding rulesVerdict typingVerdict bindingVerdict
+rules-binding x v e f = f ∙ sym (after-accepted (each (typed x) (length (x .rows)) (λ r. Typing (row r))) _ e)
+
+pub to-fill : {s : List ℕ} {i : Image} {uses defs leads : List ℕ} → Lent s i uses defs leads → MasksLent s i uses defs leads
+to-fill l = record { rooted = l .rooted; usesSize = l .usesSize; defsSize = l .defsSize; leadsSize = l .leadsSize }
+
+pub to-bind : {s : List ℕ} {i : Image} {uses defs leads : List ℕ} → Rooted s i → Filled (tablesOf s) (rowCount i) uses defs leads → BindingMasked s i uses defs
+to-bind r f = record { rooted = r; useRow = f .useRow; defRow = f .defRow; usesSize = f .usesSize; defsSize = f .defsSize }
+
+-- a verdict that is known and refuses
+pub tables-stays : (s : List ℕ) (v : Verdict) (y : Refusal) → v ≡ headerVerdict s → v ≡ Refused y → v ≡ tablesVerdict s
+tables-stays s v y e f = f ∙ tables-refused s y (sym e ∙ f)
+
+pub rules-stays : (x : Tables) (v : Verdict) (y : Refusal) → v ≡ typingVerdict x → v ≡ Refused y → v ≡ rulesVerdict x
+rules-stays x v y e f = f ∙ rules-refused x y (sym e ∙ f)
+
+-- 10 and 11
+states-known : {s : List ℕ} {i : Image} → Rooted s i → length (tablesOf s .states) ≡ stateCount i
+states-known r = states-count (r .formed .located)
+
+pub states-order : {s : List ℕ} {i : Image} → Rooted s i → i .states ≤ i .rows
+states-order r = let l = laid (r .formed .located) in omega (arith, l .rows)
+
+no-refusal : {A : Type 0} (y : Refusal) → Refused y ≡ Accepted → A
+no-refusal y e = let k : _≡_ {A = ℕ} 0 1 = cc in absurd (omega arith)
+
+pub found-short : {s : List ℕ} {i : Image} (room : ℕ) (was masks : List ℕ) → Rooted s i → room < (i .rows - i .states) / 2
+    → Found (tablesOf s) room (Refused SetsShort) was masks
+unfolding foundVerdict after
+found-short {s} room was masks r h =
+    record { verdict = rw (lt-leb (length (tablesOf s .states)) room (omega (arith, states-known r))); sets = no-refusal SetsShort }
+
+pub found-sets : {s : List ℕ} {i : Image} (room : ℕ) (v : Verdict) (was masks : List ℕ) → Rooted s i → (i .rows - i .states) / 2 ≤ room
+    → SetsFound (tablesOf s) v was masks → Found (tablesOf s) room v was masks
+unfolding foundVerdict after
+found-sets {s} room v was masks r h f =
+    record { verdict = f .verdict ∙ rw (le-leb (length (tablesOf s .states)) room (omega (arith, states-known r))); sets = λ e. f .first }
+
+pub to-sets : {s : List ℕ} {i : Image} {uses defs leads masks : List ℕ} → Masked s i uses defs leads masks → Room s i uses defs leads masks
+to-sets m =
+    record {
+      lending = record { rooted = m .rooted; filled = m .filled };
+      room = let l = laid (m .rooted .formed .located) in omega (arith, states-known (m .rooted), l .statesMost, m .room);
+    }
+
+-- 10 to 12
+room-is : (x : Tables) (room : ℕ) → roomVerdict x room ≡ after (foundVerdict x room) (speechVerdict x)
+unfolding roomVerdict foundVerdict flowVerdict speechVerdict
+room-is x room = sym (after-assoc (unless (leb (length (x .states)) room) SetsShort) _ _)
+
+pub flow-stays : {x : Tables} {room : ℕ} {v : Verdict} (y : Refusal) {was masks : List ℕ} → Found x room v was masks → v ≡ Refused y
+    → Gives (roomVerdict x room) x v was masks
+flow-stays {x} {room} y f e =
+    record { verdict = e ∙ sym (room-is x room ∙ after-refused (foundVerdict x room) _ y (sym (f .verdict) ∙ e)); sets = λ a. no-refusal y (sym e ∙ a) }
+
+pub flow-speech : {x : Tables} {room : ℕ} {v : Verdict} (r : Verdict) {was masks : List ℕ} → Found x room v was masks → v ≡ Accepted
+    → r ≡ speechVerdict x → Gives (roomVerdict x room) x r was masks
+flow-speech {x} {room} r f e g =
+    record { verdict = g ∙ sym (room-is x room ∙ after-accepted (foundVerdict x room) _ (sym (f .verdict) ∙ e)); sets = λ a. f .sets e }
+
+pub to-speech : {s : List ℕ} {i : Image} {uses defs leads masks ways : List ℕ} → Flowing s i uses defs leads masks ways → (ways' : List ℕ)
+    → length ways' ≡ length ways → SpeechLent s i ways'
+to-speech m w e = record { rooted = m .masked .rooted; room = omega (arith, m .waysSize) }
+
+-- 8 to 12
+pub trees-stays : (room : ℕ) {x : Tables} {n : ℕ} {v : Verdict} {uses defs leads : List ℕ} (y : Refusal) (was masks : List ℕ) → Ruled x n v uses defs leads
+    → v ≡ Refused y → Gives (treesVerdict x room) x v was masks
+unfolding treesVerdict
+trees-stays room {x} y was masks f e =
+    record { verdict = e ∙ sym (after-refused (rulesVerdict x) _ y (sym (f .verdict) ∙ e)); sets = λ a. no-refusal y (sym e ∙ a) }
+
+pub trees-flow : (room : ℕ) {x : Tables} {n : ℕ} {v : Verdict} {uses defs leads : List ℕ} (r : Verdict) {was masks : List ℕ} → Ruled x n v uses defs leads
+    → v ≡ Accepted → Gives (roomVerdict x room) x r was masks → Gives (treesVerdict x room) x r was masks
+unfolding treesVerdict
+trees-flow room {x} r f e g = record { verdict = g .verdict ∙ sym (after-accepted (rulesVerdict x) _ (sym (f .verdict) ∙ e)); sets = g .sets }
+
+-- 1 to 12
+check-trees : (s : List ℕ) (room : ℕ) → checkVerdict s room ≡ after (tablesVerdict s) (treesVerdict (tablesOf s) room)
+unfolding checkVerdict tablesVerdict treesVerdict roomVerdict
+check-trees s room =
+    let x = tablesOf s in
+    let z = after (unless (leb (length (x .states)) room) SetsShort) (flowVerdict x) in
+    ap (λ (v : Verdict). after v z) (image-is s ∙ sym (after-assoc (headerVerdict s) (rowsVerdict x) (rulesVerdict x)))
+    ∙ after-assoc (after (headerVerdict s) (rowsVerdict x)) (rulesVerdict x) z
+
+pub judge-stays : (s : List ℕ) (room : ℕ) {v : Verdict} (y : Refusal) (was masks : List ℕ) → v ≡ tablesVerdict s → v ≡ Refused y
+    → Gives (checkVerdict s room) (tablesOf s) v was masks
+judge-stays s room y was masks f e =
+    record { verdict = e ∙ sym (check-trees s room ∙ after-refused (tablesVerdict s) _ y (sym f ∙ e)); sets = λ a. no-refusal y (sym e ∙ a) }
+
+pub judge-trees : (s : List ℕ) (room : ℕ) {v : Verdict} (r : Verdict) {was masks : List ℕ} → v ≡ tablesVerdict s → v ≡ Accepted
+    → Gives (treesVerdict (tablesOf s) room) (tablesOf s) r was masks → Gives (checkVerdict s room) (tablesOf s) r was masks
+judge-trees s room r f e g =
+    record { verdict = g .verdict ∙ sym (check-trees s room ∙ after-accepted (tablesVerdict s) _ (sym f ∙ e)); sets = g .sets }
+
+pub trailer-there : (s : List ℕ) {v : Verdict} → v ≡ tablesVerdict s → v ≡ Accepted → 16 ≤ length s
+unfolding tablesVerdict
+trailer-there s f e = trailer-inside s (after-both (headerVerdict s) (rowsVerdict (tablesOf s)) (sym f ∙ e) .0)
+
+pub to-trees : {s : List ℕ} {i : Image} {uses defs leads masks ways : List ℕ} → Rooted s i → Scratch uses defs leads masks ways
+    → Treeing s i uses defs leads masks ways
+to-trees r m =
+    let l = laid (r .formed .located) in
+    record {
+      lent = record {
+        rooted = r;
+        usesSize = omega (arith, l .rowsMost, m .usesSize);
+        defsSize = omega (arith, l .rowsMost, m .defsSize);
+        leadsSize = omega (arith, l .rowsMost, m .leadsSize);
+      };
+      room = m .room;
+      waysSize = omega (arith, l .rowsMost, m .waysSize);
+    }
+
+pub rooted-there : (s : List ℕ) (i : Image) {v : Verdict} → i ≡ trailerOf s → v ≡ tablesVerdict s → v ≡ Accepted → Rooted s i
+rooted-there s i t f e = rooted-of s i t (sym f ∙ e)

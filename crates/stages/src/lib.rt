@@ -1,0 +1,128 @@
+// The stages 1 to 12 of check in their order, on scratch that the caller lends.
+ghost use mathlib.Core.Path.{_≡_};
+ghost use lib.ListN.{length};
+ghost use Rattle.model.specs.Image.{tablesOf, rowCount};
+ghost use Rattle.stages.specs.Judging.{tablesVerdict, Lent, Ruled, Masked, Found, Flowing, Gives, roomVerdict, Treeing, treesVerdict, Scratch};
+ghost use Rattle.model.specs.Calls.{checkVerdict};
+use binding::binding_verdict;
+use header::header;
+use image::trailer;
+use masks::fill;
+use model::Image;
+use model::Refusal;
+use model::Verdict;
+use rows::rows_verdict;
+use sets::sets_verdict;
+use speech::speech_verdict;
+use typing::typing_verdict;
+
+// 1 to 7: trailer, tables, rows.
+fn tables(image: &[u8]) -> Verdict
+    ensures { λ r. ⌜ r ≡ tablesVerdict (now (image .entry)) ⌝ }
+{
+    let v = header(image);
+    match v {
+        Verdict::Refused(_) => v,
+        Verdict::Accepted => {
+            let i = trailer(image);
+            rows_verdict(image, i)
+        }
+    }
+}
+
+// 8 and 9, with the masks of rows that the later stages read.
+fn rules(image: &[u8], i: Image, uses: &mut [u64], defs: &mut [u64], leads: &mut [u64]) -> Verdict
+    requires { ⌜ Lent (now image) i (now uses) (now defs) (now leads) ⌝ }
+    ensures { λ r. ⌜ Ruled (tablesOf (now (image .entry))) (rowCount i) r (now (uses .exit)) (now (defs .exit)) (now (leads .exit)) ⌝ }
+{
+    fill(image, i, uses, defs, leads);
+    let v = typing_verdict(image, i);
+    match v {
+        Verdict::Refused(_) => v,
+        Verdict::Accepted => binding_verdict(image, i, uses, defs),
+    }
+}
+
+// 10 and 11: room for the sets, then the sets and what is read before it is set.
+fn found(
+    image: &[u8],
+    i: Image,
+    room: usize,
+    uses: &[u64],
+    defs: &[u64],
+    leads: &[u64],
+    masks: &mut [u64],
+) -> Verdict
+    requires { ⌜ Masked (now image) i (now uses) (now defs) (now leads) (now masks) ⌝ }
+    ensures { λ r. ⌜ Found (tablesOf (now (image .entry))) room r (now (masks .entry)) (now (masks .exit)) ⌝ }
+{
+    if room < ((i.rows - i.states) / 2) as usize {
+        return Verdict::Refused(Refusal::SetsShort);
+    }
+    sets_verdict(image, i, uses, defs, leads, masks)
+}
+
+// 10 to 12: the sets, then speech.
+fn flow(
+    image: &[u8],
+    i: Image,
+    room: usize,
+    uses: &[u64],
+    defs: &[u64],
+    leads: &[u64],
+    masks: &mut [u64],
+    ways: &mut [u8],
+) -> Verdict
+    requires { ⌜ Flowing (now image) i (now uses) (now defs) (now leads) (now masks) (now ways) ⌝ }
+    ensures { λ r. ⌜ Gives (roomVerdict (tablesOf (now (image .entry))) room) (tablesOf (now (image .entry))) r (now (masks .entry)) (now (masks .exit)) ⌝ }
+{
+    let v = found(image, i, room, uses, defs, leads, masks);
+    match v {
+        Verdict::Refused(_) => v,
+        Verdict::Accepted => speech_verdict(image, i, ways),
+    }
+}
+
+// 8 to 12, of an image free of 1 to 7.
+fn trees(
+    image: &[u8],
+    i: Image,
+    room: usize,
+    uses: &mut [u64],
+    defs: &mut [u64],
+    leads: &mut [u64],
+    masks: &mut [u64],
+    ways: &mut [u8],
+) -> Verdict
+    requires { ⌜ Treeing (now image) i (now uses) (now defs) (now leads) (now masks) (now ways) ⌝ }
+    ensures { λ r. ⌜ Gives (treesVerdict (tablesOf (now (image .entry))) room) (tablesOf (now (image .entry))) r (now (masks .entry)) (now (masks .exit)) ⌝ }
+{
+    let v = rules(image, i, uses, defs, leads);
+    match v {
+        Verdict::Refused(_) => v,
+        Verdict::Accepted => flow(image, i, room, uses, defs, leads, masks, ways),
+    }
+}
+
+// 1 to 12, with room for so many sets.
+pub fn judge(
+    image: &[u8],
+    room: usize,
+    uses: &mut [u64],
+    defs: &mut [u64],
+    leads: &mut [u64],
+    masks: &mut [u64],
+    ways: &mut [u8],
+) -> Verdict
+    requires { ⌜ Scratch (now uses) (now defs) (now leads) (now masks) (now ways) ⌝ }
+    ensures { λ r. ⌜ Gives (checkVerdict (now (image .entry)) room) (tablesOf (now (image .entry))) r (now (masks .entry)) (now (masks .exit)) ⌝ }
+{
+    let v = tables(image);
+    match v {
+        Verdict::Refused(_) => v,
+        Verdict::Accepted => {
+            let i = trailer(image);
+            trees(image, i, room, uses, defs, leads, masks, ways)
+        }
+    }
+}
