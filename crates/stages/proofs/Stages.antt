@@ -164,7 +164,7 @@ unfolding treesVerdict
 trees-flow room {x} r f e g = record { verdict = g .verdict ∙ sym (after-accepted (rulesVerdict x) _ (sym (f .verdict) ∙ e)); sets = g .sets }
 
 -- 1 to 12
-check-trees : (s : List ℕ) (room : ℕ) → checkVerdict s room ≡ after (tablesVerdict s) (treesVerdict (tablesOf s) room)
+pub check-trees : (s : List ℕ) (room : ℕ) → checkVerdict s room ≡ after (tablesVerdict s) (treesVerdict (tablesOf s) room)
 unfolding checkVerdict tablesVerdict treesVerdict roomVerdict
 check-trees s room =
     let x = tablesOf s in

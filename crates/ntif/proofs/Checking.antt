@@ -1,0 +1,103 @@
+-- What the stages' verdict gives check. Assumes nothing.
+use mathlib.Core.{Path._≡_, Path.refl, Path.sym, Path.ap, Path._∙_, List.List, List.[], List._++_}
+use Prim.Native.Nat.{ℕ, _+_, _-_, _*_, _/_, _≤_, _<_}
+use native.Mathlib.Omega.{arith}
+use lib.{Dec.leb, ListN.length, ListN.getD, ListN.take, ListN.drop, Seq.take-at}
+use borrow.Author.Tests.{leb-true}
+use Rattle.model.specs.declared.{Image.Image, Verdict.Verdict, Verdict.the-variants.Accepted, Verdict.the-variants.Refused, Refusal.Refusal, Refusal.the-variants.SetsShort}
+use Rattle.model.specs.Answers.{number, place, after, unless}
+use Rattle.model.specs.Image.{Tables, tablesOf, trailerOf, stateCount}
+use Rattle.model.specs.Largest.{setsOf}
+use Rattle.model.specs.Bytes.{wordsOf, written}
+use Rattle.model.specs.Exports.{packVerdict, Exported, checkBytes}
+use Rattle.model.specs.Calls.{rulesVerdict, flowVerdict, checkVerdict, Checked, checkedAs, check}
+use Rattle.model.proofs.Order.{after-both, unless-true}
+use Rattle.image.specs.Located.{Rooted}
+use Rattle.image.proofs.Laid.{laid, states-count}
+use Rattle.demands.proofs.Solved.{sets-length}
+use Rattle.sets.proofs.Entries.{parameters-in}
+use Rattle.sets.proofs.Leading.{leads-of}
+use Rattle.stages.specs.Judging.{tablesVerdict, treesVerdict, roomVerdict, Gives}
+use Rattle.stages.proofs.Stages.{check-trees, rooted-of, trailer-there}
+use Rattle.ntif.proofs.Kept.{written-kept, words-length}
+
+-- an image that check accepts with so much room
+module _ (s : List ℕ) (room : ℕ) {v : Verdict} (f : v ≡ checkVerdict s room) (e : v ≡ Accepted) where
+  both : (tablesVerdict s ≡ Accepted) × (treesVerdict (tablesOf s) room ≡ Accepted)
+  both = after-both (tablesVerdict s) (treesVerdict (tablesOf s) room) (sym (check-trees s room) ∙ sym f ∙ e)
+
+  pub accepted-trailer : 16 ≤ length s
+  accepted-trailer = trailer-there s refl (both .0)
+
+  pub accepted-rooted : (i : Image) → i ≡ trailerOf s → Rooted s i
+  accepted-rooted i t = rooted-of s i t (both .0)
+
+  pub accepted-room : length (tablesOf s .states) ≤ room
+  unfolding treesVerdict roomVerdict
+  accepted-room =
+      let x = tablesOf s in
+      let t = after-both (rulesVerdict x) (roomVerdict x room) (both .1) in
+      leb-true _ room (unless-true _ SetsShort (after-both (unless (leb (length (x .states)) room) SetsShort) (flowVerdict x) (t .1) .0))
+
+  pub accepted-count : (i : Image) → i ≡ trailerOf s → (i .rows - i .states) / 2 ≡ length (tablesOf s .states)
+  accepted-count i t = sym (states-count (accepted-rooted i t .formed .located))
+
+  pub accepted-most : length (tablesOf s .states) ≤ 64
+  accepted-most =
+      let r = accepted-rooted (trailerOf s) refl in
+      let l = laid (r .formed .located) in
+      omega (arith, states-count (r .formed .located), l .statesMost)
+
+  sets-long : length (setsOf (tablesOf s)) ≡ length (tablesOf s .states)
+  sets-long =
+      let r = accepted-rooted (trailerOf s) refl in
+      sets-length (tablesOf s) (leads-of r) (parameters-in (tablesOf s) (r .formed .entries))
+
+  -- the sets that the stages leave
+  pub accepted-sets : (was masks : List ℕ) (n : ℕ) → masks ≡ setsOf (tablesOf s) ++ drop (length (tablesOf s .states)) was
+      → n ≡ length (tablesOf s .states) → take n masks ≡ setsOf (tablesOf s)
+  accepted-sets was masks n g c = rw g (take-at _ _ n (sets-long ∙ sym c))
+
+pub checked-refused : (s sets : List ℕ) {v : Verdict} (y : Refusal) → v ≡ checkVerdict s (length sets) → v ≡ Refused y
+    → _≡_ {A = Checked} (record { answer = v; sets = sets }) (check s sets)
+unfolding check
+checked-refused s sets y f e = rw (← f, e)
+
+pub checked-accepted : (s sets : List ℕ) {v : Verdict} {was masks after : List ℕ} (n : ℕ) → Gives (checkVerdict s (length sets)) (tablesOf s) v was masks
+    → v ≡ Accepted → n ≡ length (tablesOf s .states) → after ≡ take n masks ++ drop n sets
+    → _≡_ {A = Checked} (record { answer = v; sets = after }) (check s sets)
+unfolding check
+checked-accepted s sets {v} {was} {masks} n g e c a =
+    let t = accepted-sets s (length sets) (g .verdict) e was masks n (g .sets e) c in
+    let l : length (setsOf (tablesOf s)) ≡ n = sets-long s (length sets) (g .verdict) e ∙ sym c in
+    rw (← g .verdict, e, a, t, l)
+
+pub pack-refused : {v : Verdict} (y : Refusal) {n p : ℕ} → v ≡ Refused y → n ≡ number y → p ≡ place y → n + p * 65536 ≡ packVerdict v
+pack-refused y e f g = rw (e, f, g)
+
+-- check on bytes
+module _ (s sets : List ℕ) (bytes : (j : ℕ) → getD sets j 0 < 256) where
+  of-words : {v : Verdict} → v ≡ checkVerdict s (length sets / 8) → v ≡ checkVerdict s (length (wordsOf 8 sets))
+  of-words f = f ∙ ap (checkVerdict s) (sym (words-length 8 sets))
+
+  kept : written 8 (wordsOf 8 sets) sets ≡ sets
+  unfolding written
+  kept = written-kept 8 sets bytes [] (omega arith) (omega arith)
+
+  pub bytes-refused : {v : Verdict} {n : ℕ} (y : Refusal) → v ≡ checkVerdict s (length sets / 8) → v ≡ Refused y → n ≡ packVerdict v
+      → _≡_ {A = Exported} (record { answer = n; lent = sets }) (checkBytes s sets)
+  unfolding checkBytes
+  bytes-refused y f e p = rw (← checked-refused s (wordsOf 8 sets) y (of-words f) e, p, kept)
+
+  pub bytes-accepted : {v : Verdict} {was masks after : List ℕ} {m : ℕ} (n : ℕ) → Gives (checkVerdict s (length sets / 8)) (tablesOf s) v was masks
+      → v ≡ Accepted → n ≡ length (tablesOf s .states) → after ≡ written 8 (take n masks) sets → m ≡ packVerdict v
+      → _≡_ {A = Exported} (record { answer = m; lent = after }) (checkBytes s sets)
+  unfolding checkBytes
+  bytes-accepted {v} {was} {masks} n g e c a p =
+      let h : Gives (checkVerdict s (length (wordsOf 8 sets))) (tablesOf s) v was masks = record { verdict = of-words (g .verdict); sets = g .sets } in
+      let t = accepted-sets s _ (g .verdict) e was masks n (g .sets e) c in
+      let l : length (take n masks) ≡ n = ap length t ∙ sets-long s _ (g .verdict) e ∙ sym c in
+      let m = accepted-room s _ (g .verdict) e in
+      let k : written 8 (take n masks ++ drop n (wordsOf 8 sets)) sets ≡ written 8 (take n masks) sets =
+      rw (← ap (λ (j : ℕ). drop j (wordsOf 8 sets)) l) (written-kept 8 sets bytes (take n masks) (omega arith) (omega (arith, l, c, m))) in
+      rw (← checked-accepted s (wordsOf 8 sets) n h e c refl, p, a, k)

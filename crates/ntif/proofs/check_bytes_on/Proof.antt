@@ -1,0 +1,134 @@
+use borrow.Author.Needs.{needs}
+use native.Mathlib.Omega.{arith}
+use Rattle.stages.proofs.Stages.{states-order}
+use Rattle.ntif.proofs.Checking.{accepted-trailer, accepted-rooted, accepted-room, accepted-count, accepted-most, bytes-refused, bytes-accepted}
+use Rattle.ntif.proofs.check_bytes_on.Statement.{statement}
+use Rattle.ntif.proofs.check_bytes_on.Tie as tie
+use Rattle.ntif.proofs.check_bytes_on.Reads as reads
+use Rattle.ntif.proofs.check_bytes_on.Lts as lts
+use Rattle.image.proofs.trailer.Reads as trailer-reads
+use Rattle.ntif.proofs.pack_verdict.Reads as pack-verdict-reads
+use Rattle.stages.proofs.judge.Reads as judge-reads
+use Rattle.words.proofs.put_masks.Reads as put-masks-reads
+
+-- src/lib.rt:93:9
+judge-requires : tie.Need-judge-requires
+judge-requires c κs = search needs
+
+-- src/lib.rt:95:32
+enum-told : tie.Need-enum-told
+enum-told c = search needs
+
+-- src/lib.rt:95:32
+pack-verdict-requires : tie.Need-pack-verdict-requires
+pack-verdict-requires c κs = search needs
+
+-- src/lib.rt:97:17
+enum-told-2 : tie.Need-enum-told-2
+enum-told-2 c = search needs
+
+-- src/lib.rt:97:17
+trailer-requires : tie.Need-trailer-requires
+trailer-requires c κs = accepted-trailer _ _ (c .before .before .before .before .before .before .before .before .before .before .before .before .judge .ensures .verdict) (c .enum-told2 .given .1)
+
+-- src/lib.rt:98:38
+sub-put-masks : tie.Need-sub-put-masks
+sub-put-masks c = states-order (accepted-rooted _ _ (c .before .before .before .before .before .before .before .before .before .before .before .before .before .before .before .before .judge .ensures .verdict) (c .before .before .before .before .enum-told2 .given .1) _ (c .before .before .before .trailer .ensures))
+
+-- src/lib.rt:98:36
+cast-put-masks : tie.Need-cast-put-masks
+cast-put-masks c = search needs
+
+-- src/lib.rt:98:13
+put-masks-requires : tie.Need-put-masks-requires
+put-masks-requires c κs =
+    let v = c .before .before .before .before .before .before .before .before .before .before .before .before .before .before .before .before .judge .ensures .verdict in
+    let e = c .before .before .before .before .enum-told2 .given .1 in
+    let n = accepted-count _ _ v e _ (c .before .before .before .trailer .ensures) in
+    (omega (arith, n, accepted-most _ _ v e, c .before .before .before .before .before .before .before .before .before .before .before .before .before .before .before .before .before .before .before .before .before .before .before .before .before .before .before .before .before .pre .room), omega (arith, n, accepted-room _ _ v e))
+
+-- src/lib.rt:99:13
+pack-verdict-requires-2 : tie.Need-pack-verdict-requires-2
+pack-verdict-requires-2 c κs = search needs
+
+-- src/lib.rt:81:1
+same-length : tie.Need-same-length
+same-length c = search needs
+
+-- src/lib.rt:81:1
+same-length-2 : tie.Need-same-length-2
+same-length-2 c = search needs
+
+-- src/lib.rt:81:1
+same-length-3 : tie.Need-same-length-3
+same-length-3 c = search needs
+
+-- src/lib.rt:81:1
+same-length-4 : tie.Need-same-length-4
+same-length-4 c = search needs
+
+-- src/lib.rt:81:1
+same-length-5 : tie.Need-same-length-5
+same-length-5 c = search needs
+
+-- src/lib.rt:81:1
+returns : tie.Need-returns
+returns c = bytes-refused _ (c .before .before .before .before .before .before .before .before .before .before .before .before .before .before .before .before .before .before .before .before .before .before .before .before .before .before .args .sets .now) (λ j. omega (arith, c .before .before .before .before .before .before .before .before .before .before .before .before .before .before .before .before .before .before .before .before .before .before .before .before .slice-known .given j)) _ (c .before .before .before .before .before .before .before .before .before .before .before .before .before .judge .ensures .verdict) (c .before .enum-told .given .1) (c .pack-verdict .ensures)
+
+-- src/lib.rt:81:1
+same-length-6 : tie.Need-same-length-6
+same-length-6 c = search needs
+
+-- src/lib.rt:81:1
+same-length-7 : tie.Need-same-length-7
+same-length-7 c = search needs
+
+-- src/lib.rt:81:1
+same-length-8 : tie.Need-same-length-8
+same-length-8 c = search needs
+
+-- src/lib.rt:81:1
+same-length-9 : tie.Need-same-length-9
+same-length-9 c = search needs
+
+-- src/lib.rt:81:1
+same-length-10 : tie.Need-same-length-10
+same-length-10 c = search needs
+
+-- src/lib.rt:81:1
+same-length-11 : tie.Need-same-length-11
+same-length-11 c = search needs
+
+-- src/lib.rt:81:1
+returns-2 : tie.Need-returns-2
+returns-2 c =
+    let g = c .before .before .before .before .before .before .before .before .before .before .before .before .before .before .before .before .before .before .before .before .judge .ensures in
+    let e = c .before .before .before .before .before .before .before .before .enum-told2 .given .1 in
+    bytes-accepted _ (c .before .before .before .before .before .before .before .before .before .before .before .before .before .before .before .before .before .before .before .before .before .before .before .before .before .before .before .before .before .before .before .before .before .args .sets .now) (λ j. omega (arith, c .before .before .before .before .before .before .before .before .before .before .before .before .before .before .before .before .before .before .before .before .before .before .before .before .before .before .before .before .before .before .before .slice-known .given j)) _ g e (accepted-count _ _ (g .verdict) e _ (c .before .before .before .before .before .before .before .trailer .ensures)) (c .before .before .before .put-masks .ensures) (c .pack-verdict2 .ensures)
+
+pub check-bytes-on-spec : {M : Type 1} → statement M
+check-bytes-on-spec =
+    tie.close
+    (tie.spec
+    judge-requires
+    enum-told
+    pack-verdict-requires
+    enum-told-2
+    trailer-requires
+    sub-put-masks
+    cast-put-masks
+    put-masks-requires
+    pack-verdict-requires-2
+    same-length
+    same-length-2
+    same-length-3
+    same-length-4
+    same-length-5
+    returns
+    same-length-6
+    same-length-7
+    same-length-8
+    same-length-9
+    same-length-10
+    same-length-11
+    returns-2)
