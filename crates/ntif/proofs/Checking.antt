@@ -17,27 +17,20 @@ use Rattle.image.proofs.Laid.{laid, states-count}
 use Rattle.demands.proofs.Solved.{sets-length}
 use Rattle.sets.proofs.Entries.{parameters-in}
 use Rattle.sets.proofs.Leading.{leads-of}
-use Rattle.stages.specs.Judging.{tablesVerdict, treesVerdict, roomVerdict, Gives}
-use Rattle.stages.proofs.Stages.{check-trees, rooted-of, trailer-there}
+use Rattle.stages.specs.Judging.{Checks}
+use Rattle.stages.proofs.Stages.{rooted-of, trailer-there, accepted-tables, accepted-room, accepted-leaves}
 use Rattle.ntif.proofs.Kept.{written-kept, words-length}
 
 -- an image that check accepts with so much room
 module _ (s : List ℕ) (room : ℕ) {v : Verdict} (f : v ≡ checkVerdict s room) (e : v ≡ Accepted) where
-  both : (tablesVerdict s ≡ Accepted) × (treesVerdict (tablesOf s) room ≡ Accepted)
-  both = after-both (tablesVerdict s) (treesVerdict (tablesOf s) room) (sym (check-trees s room) ∙ sym f ∙ e)
-
   pub accepted-trailer : 16 ≤ length s
-  accepted-trailer = trailer-there s refl (both .0)
+  accepted-trailer = trailer-there s refl (accepted-tables s room (sym f ∙ e))
 
   pub accepted-rooted : (i : Image) → i ≡ trailerOf s → Rooted s i
-  accepted-rooted i t = rooted-of s i t (both .0)
+  accepted-rooted i t = rooted-of s i t (accepted-tables s room (sym f ∙ e))
 
-  pub accepted-room : length (tablesOf s .states) ≤ room
-  unfolding treesVerdict roomVerdict
-  accepted-room =
-      let x = tablesOf s in
-      let t = after-both (rulesVerdict x) (roomVerdict x room) (both .1) in
-      leb-true _ room (unless-true _ SetsShort (after-both (unless (leb (length (x .states)) room) SetsShort) (flowVerdict x) (t .1) .0))
+  pub accepted-fits : length (tablesOf s .states) ≤ room
+  accepted-fits = accepted-room s room (sym f ∙ e)
 
   pub accepted-count : (i : Image) → i ≡ trailerOf s → (i .rows - i .states) / 2 ≡ length (tablesOf s .states)
   accepted-count i t = sym (states-count (accepted-rooted i t .formed .located))
@@ -53,22 +46,23 @@ module _ (s : List ℕ) (room : ℕ) {v : Verdict} (f : v ≡ checkVerdict s roo
       let r = accepted-rooted (trailerOf s) refl in
       sets-length (tablesOf s) (leads-of r) (parameters-in (tablesOf s) (r .formed .entries))
 
-  -- the sets that the stages leave
-  pub accepted-sets : (was masks : List ℕ) (n : ℕ) → masks ≡ setsOf (tablesOf s) ++ drop (length (tablesOf s .states)) was
-      → n ≡ length (tablesOf s .states) → take n masks ≡ setsOf (tablesOf s)
-  accepted-sets was masks n g c = rw g (take-at _ _ n (sets-long ∙ sym c))
+-- the sets that the stages leave
+accepted-sets : (s : List ℕ) (room : ℕ) {v : Verdict} (was masks : List ℕ) (n : ℕ) → Checks s room v was masks → v ≡ Accepted
+    → n ≡ length (tablesOf s .states) → take n masks ≡ setsOf (tablesOf s)
+accepted-sets s room was masks n g e c =
+    rw (g .left, accepted-leaves s room (sym (g .verdict) ∙ e) was) (take-at _ _ n (sets-long s room (g .verdict) e ∙ sym c))
 
 pub checked-refused : (s sets : List ℕ) {v : Verdict} (y : Refusal) → v ≡ checkVerdict s (length sets) → v ≡ Refused y
     → _≡_ {A = Checked} (record { answer = v; sets = sets }) (check s sets)
 unfolding check
 checked-refused s sets y f e = rw (← f, e)
 
-pub checked-accepted : (s sets : List ℕ) {v : Verdict} {was masks after : List ℕ} (n : ℕ) → Gives (checkVerdict s (length sets)) (tablesOf s) v was masks
+pub checked-accepted : (s sets : List ℕ) {v : Verdict} {was masks after : List ℕ} (n : ℕ) → Checks s (length sets) v was masks
     → v ≡ Accepted → n ≡ length (tablesOf s .states) → after ≡ take n masks ++ drop n sets
     → _≡_ {A = Checked} (record { answer = v; sets = after }) (check s sets)
 unfolding check
 checked-accepted s sets {v} {was} {masks} n g e c a =
-    let t = accepted-sets s (length sets) (g .verdict) e was masks n (g .sets e) c in
+    let t = accepted-sets s (length sets) was masks n g e c in
     let l : length (setsOf (tablesOf s)) ≡ n = sets-long s (length sets) (g .verdict) e ∙ sym c in
     rw (← g .verdict, e, a, t, l)
 
@@ -89,15 +83,15 @@ module _ (s sets : List ℕ) (bytes : (j : ℕ) → getD sets j 0 < 256) where
   unfolding checkBytes
   bytes-refused y f e p = rw (← checked-refused s (wordsOf 8 sets) y (of-words f) e, p, kept)
 
-  pub bytes-accepted : {v : Verdict} {was masks after : List ℕ} {m : ℕ} (n : ℕ) → Gives (checkVerdict s (length sets / 8)) (tablesOf s) v was masks
+  pub bytes-accepted : {v : Verdict} {was masks after : List ℕ} {m : ℕ} (n : ℕ) → Checks s (length sets / 8) v was masks
       → v ≡ Accepted → n ≡ length (tablesOf s .states) → after ≡ written 8 (take n masks) sets → m ≡ packVerdict v
       → _≡_ {A = Exported} (record { answer = m; lent = after }) (checkBytes s sets)
   unfolding checkBytes
   bytes-accepted {v} {was} {masks} n g e c a p =
-      let h : Gives (checkVerdict s (length (wordsOf 8 sets))) (tablesOf s) v was masks = record { verdict = of-words (g .verdict); sets = g .sets } in
-      let t = accepted-sets s _ (g .verdict) e was masks n (g .sets e) c in
+      let h : Checks s (length (wordsOf 8 sets)) v was masks = rw (words-length 8 sets) g in
+      let t = accepted-sets s _ was masks n g e c in
       let l : length (take n masks) ≡ n = ap length t ∙ sets-long s _ (g .verdict) e ∙ sym c in
-      let m = accepted-room s _ (g .verdict) e in
+      let m = accepted-fits s _ (g .verdict) e in
       let k : written 8 (take n masks ++ drop n (wordsOf 8 sets)) sets ≡ written 8 (take n masks) sets =
       rw (← ap (λ (j : ℕ). drop j (wordsOf 8 sets)) l) (written-kept 8 sets bytes (take n masks) (omega arith) (omega (arith, l, c, m))) in
       rw (← checked-accepted s (wordsOf 8 sets) n h e c refl, p, a, k)

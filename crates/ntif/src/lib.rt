@@ -5,7 +5,6 @@ ghost use Prim.Native.Nat.{_≤_};
 ghost use lib.ListN.{length, take, drop};
 ghost use Rattle.model.specs.Calls.{check};
 ghost use Rattle.model.specs.Exports.{packVerdict, checkBytes};
-ghost use Rattle.stages.specs.Judging.{Scratch};
 use image::trailer;
 use model::Image;
 use model::Verdict;
@@ -23,20 +22,12 @@ fn copy(sets: &mut [u64], masks: &[u64], count: usize)
     }
 }
 
-// check on scratch that its caller lends.
-fn check_on(
-    image: &[u8],
-    sets: &mut [u64],
-    uses: &mut [u64],
-    defs: &mut [u64],
-    leads: &mut [u64],
-    masks: &mut [u64],
-    ways: &mut [u8],
-) -> Verdict
-    requires { ⌜ Scratch (now uses) (now defs) (now leads) (now masks) (now ways) ⌝ }
+// check, with masks that its caller lends: a refusal leaves the sets alone.
+fn check_on(image: &[u8], sets: &mut [u64], masks: &mut [u64]) -> Verdict
+    requires { ⌜ 64 ≤ length (now masks) ⌝ }
     ensures { λ r. ⌜ record { answer = r; sets = now (sets .exit) } ≡ check (now (image .entry)) (now (sets .entry)) ⌝ }
 {
-    let v = judge(image, sets.len(), uses, defs, leads, masks, ways);
+    let v = judge(image, sets.len(), masks);
     match v {
         Verdict::Refused(_) => v,
         Verdict::Accepted => {
@@ -51,20 +42,8 @@ fn check_on(
 pub fn check(image: &[u8], sets: &mut [u64]) -> Verdict
     ensures { λ r. ⌜ record { answer = r; sets = now (sets .exit) } ≡ check (now (image .entry)) (now (sets .entry)) ⌝ }
 {
-    let mut uses = [0u64; Image::ROWS as usize];
-    let mut defs = [0u64; Image::ROWS as usize];
-    let mut leads = [0u64; Image::ROWS as usize];
     let mut masks = [0u64; Image::STATES as usize];
-    let mut ways = [0u8; Image::ROWS as usize];
-    check_on(
-        image,
-        sets,
-        &mut uses,
-        &mut defs,
-        &mut leads,
-        &mut masks,
-        &mut ways,
-    )
+    check_on(image, sets, &mut masks)
 }
 
 // 0, or a refusal's number and its place from bit 16 on.
@@ -77,20 +56,12 @@ fn pack_verdict(v: Verdict) -> u64
     }
 }
 
-// check on bytes, on scratch that its caller lends.
-fn check_bytes_on(
-    image: &[u8],
-    sets: &mut [u8],
-    uses: &mut [u64],
-    defs: &mut [u64],
-    leads: &mut [u64],
-    masks: &mut [u64],
-    ways: &mut [u8],
-) -> u64
-    requires { ⌜ Scratch (now uses) (now defs) (now leads) (now masks) (now ways) ⌝ }
+// The same on bytes.
+fn check_bytes_on(image: &[u8], sets: &mut [u8], masks: &mut [u64]) -> u64
+    requires { ⌜ 64 ≤ length (now masks) ⌝ }
     ensures { λ r. ⌜ record { answer = r; lent = now (sets .exit) } ≡ checkBytes (now (image .entry)) (now (sets .entry)) ⌝ }
 {
-    let v = judge(image, sets.len() / 8, uses, defs, leads, masks, ways);
+    let v = judge(image, sets.len() / 8, masks);
     match v {
         Verdict::Refused(_) => pack_verdict(v),
         Verdict::Accepted => {
@@ -106,18 +77,6 @@ fn check_bytes_on(
 pub extern "C" fn ntif_check(image: &[u8], sets: &mut [u8]) -> u64
     ensures { λ r. ⌜ record { answer = r; lent = now (sets .exit) } ≡ checkBytes (now (image .entry)) (now (sets .entry)) ⌝ }
 {
-    let mut uses = [0u64; Image::ROWS as usize];
-    let mut defs = [0u64; Image::ROWS as usize];
-    let mut leads = [0u64; Image::ROWS as usize];
     let mut masks = [0u64; Image::STATES as usize];
-    let mut ways = [0u8; Image::ROWS as usize];
-    check_bytes_on(
-        image,
-        sets,
-        &mut uses,
-        &mut defs,
-        &mut leads,
-        &mut masks,
-        &mut ways,
-    )
+    check_bytes_on(image, sets, &mut masks)
 }

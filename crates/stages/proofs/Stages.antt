@@ -1,8 +1,8 @@
 -- What the stages give and what the next ones are asked. Assumes nothing.
-use mathlib.Core.{Path._≡_, Path.refl, Path.sym, Path.ap, Path._∙_, Bool.Bool, Bool.true, List.List}
+use mathlib.Core.{Path._≡_, Path.refl, Path.sym, Path.ap, Path._∙_, Bool.Bool, Bool.true, List.List, List._++_}
 use Prim.Native.Nat.{ℕ, _-_, _/_, _≤_, _<_}
 use native.Mathlib.Omega.{arith}
-use lib.{Dec.leb, ListN.length, ListN.getD}
+use lib.{Dec.leb, ListN.length, ListN.getD, ListN.drop}
 use borrow.Author.Tests.{leb-true, lt-leb, le-leb}
 use Rattle.model.specs.declared.{Image.Image, Verdict.Verdict, Verdict.the-variants.Accepted, Verdict.the-variants.Refused, Refusal.Refusal, Refusal.the-variants.ImageLength, Refusal.the-variants.MarkOrLength, Refusal.the-variants.Starts, Refusal.the-variants.Entries, Refusal.the-variants.Malformed, Refusal.the-variants.NoAction, Refusal.the-variants.NoCondition, Refusal.the-variants.Typing, Refusal.the-variants.Binding, Refusal.the-variants.SetsShort}
 use Rattle.model.specs.Answers.{state, row, after, unless, each}
@@ -10,7 +10,8 @@ use Rattle.model.specs.Image.{Tables, none, lengthFits, marked, trailerOf, star
 use Rattle.model.specs.Rows.{action, expression, formed, isRoot}
 use Rattle.model.specs.Typing.{typed}
 use Rattle.model.specs.Binding.{bound}
-use Rattle.model.specs.Calls.{rowsVerdict, rulesVerdict, flowVerdict, checkVerdict}
+use Rattle.model.specs.Largest.{setsOf}
+use Rattle.model.specs.Calls.{rowsVerdict, rulesVerdict, imageVerdict, flowVerdict, checkVerdict}
 use Rattle.model.proofs.Rows.{both-true}
 use Rattle.model.proofs.Order.{after-accepted, after-refused, after-assoc, after-both, unless-true, each-all}
 use Rattle.image.specs.Located.{Located, Formed, Rooted, headerVerdict}
@@ -20,7 +21,7 @@ use Rattle.binding.specs.Bound.{bindingVerdict, Masked as BindingMasked}
 use Rattle.sets.specs.States.{Lending, Room, Found as SetsFound}
 use Rattle.image.proofs.Laid.{laid, states-count}
 use Rattle.typing.specs.Rules.{typingVerdict}
-use Rattle.stages.specs.Judging.{tablesVerdict, Lent, Ruled, Masked, foundVerdict, Found, Flowing, Gives, roomVerdict, Treeing, treesVerdict, Scratch}
+use Rattle.stages.specs.Judging.{tablesVerdict, Lent, Ruled, Masked, roomStage, leaves, Gives, foundVerdict, Found, Flowing, roomVerdict, Flowed, treesVerdict, Judged, Treeing, Sized, Checks}
 use Rattle.stages.proofs.Order.{image-is}
 use Rattle.speech.specs.Verdict.{speechVerdict}
 use Rattle.speech.specs.Filled.{Lent as SpeechLent}
@@ -110,20 +111,26 @@ states-known r = states-count (r .formed .located)
 pub states-order : {s : List ℕ} {i : Image} → Rooted s i → i .states ≤ i .rows
 states-order r = let l = laid (r .formed .located) in omega (arith, l .rows)
 
-no-refusal : {A : Type 0} (y : Refusal) → Refused y ≡ Accepted → A
-no-refusal y e = let k : _≡_ {A = ℕ} 0 1 = cc in absurd (omega arith)
+leaves-on : (v w : Verdict) (x : Tables) (was : List ℕ) → v ≡ Accepted → leaves (after v w) x was ≡ leaves w x was
+leaves-on v w x was e = ap (λ (u : Verdict). leaves u x was) (after-accepted v w e)
 
-pub found-short : {s : List ℕ} {i : Image} (room : ℕ) (was masks : List ℕ) → Rooted s i → room < (i .rows - i .states) / 2
-    → Found (tablesOf s) room (Refused SetsShort) was masks
-unfolding foundVerdict after
-found-short {s} room was masks r h =
-    record { verdict = rw (lt-leb (length (tablesOf s .states)) room (omega (arith, states-known r))); sets = no-refusal SetsShort }
+leaves-none : (v w : Verdict) (x : Tables) (was : List ℕ) (y : Refusal) → v ≡ Refused y → leaves (after v w) x was ≡ was
+unfolding leaves
+leaves-none v w x was y e = ap (λ (u : Verdict). leaves u x was) (after-refused v w y e)
+
+pub found-short : {s : List ℕ} {i : Image} (room : ℕ) (was : List ℕ) → Rooted s i → room < (i .rows - i .states) / 2
+    → Found (tablesOf s) room (Refused SetsShort) was was
+unfolding foundVerdict after leaves
+found-short {s} room was r h =
+    let f = lt-leb (length (tablesOf s .states)) room (omega (arith, states-known r)) in
+    record { verdict = rw f; left = rw f }
 
 pub found-sets : {s : List ℕ} {i : Image} (room : ℕ) (v : Verdict) (was masks : List ℕ) → Rooted s i → (i .rows - i .states) / 2 ≤ room
     → SetsFound (tablesOf s) v was masks → Found (tablesOf s) room v was masks
-unfolding foundVerdict after
+unfolding foundVerdict after leaves
 found-sets {s} room v was masks r h f =
-    record { verdict = f .verdict ∙ rw (le-leb (length (tablesOf s .states)) room (omega (arith, states-known r))); sets = λ e. f .first }
+    let t = le-leb (length (tablesOf s .states)) room (omega (arith, states-known r)) in
+    record { verdict = f .verdict ∙ rw t; left = f .first ∙ rw t }
 
 pub to-sets : {s : List ℕ} {i : Image} {uses defs leads masks : List ℕ} → Masked s i uses defs leads masks → Room s i uses defs leads masks
 to-sets m =
@@ -135,71 +142,117 @@ to-sets m =
 -- 10 to 12
 room-is : (x : Tables) (room : ℕ) → roomVerdict x room ≡ after (foundVerdict x room) (speechVerdict x)
 unfolding roomVerdict foundVerdict flowVerdict speechVerdict
-room-is x room = sym (after-assoc (unless (leb (length (x .states)) room) SetsShort) _ _)
+room-is x room = sym (after-assoc (roomStage x room) _ _)
 
-pub flow-stays : {x : Tables} {room : ℕ} {v : Verdict} (y : Refusal) {was masks : List ℕ} → Found x room v was masks → v ≡ Refused y
-    → Gives (roomVerdict x room) x v was masks
-flow-stays {x} {room} y f e =
-    record { verdict = e ∙ sym (room-is x room ∙ after-refused (foundVerdict x room) _ y (sym (f .verdict) ∙ e)); sets = λ a. no-refusal y (sym e ∙ a) }
+pub flow-stays : {x : Tables} (room : ℕ) {v : Verdict} (y : Refusal) {was masks : List ℕ} → Found x room v was masks → v ≡ Refused y
+    → Flowed x room v was masks
+flow-stays {x} room y f e =
+    record { verdict = e ∙ sym (room-is x room ∙ after-refused (foundVerdict x room) _ y (sym (f .verdict) ∙ e)); left = f .left }
 
-pub flow-speech : {x : Tables} {room : ℕ} {v : Verdict} (r : Verdict) {was masks : List ℕ} → Found x room v was masks → v ≡ Accepted
-    → r ≡ speechVerdict x → Gives (roomVerdict x room) x r was masks
-flow-speech {x} {room} r f e g =
-    record { verdict = g ∙ sym (room-is x room ∙ after-accepted (foundVerdict x room) _ (sym (f .verdict) ∙ e)); sets = λ a. f .sets e }
+pub flow-speech : {x : Tables} (room : ℕ) {v : Verdict} (r : Verdict) {was masks : List ℕ} → Found x room v was masks → v ≡ Accepted
+    → r ≡ speechVerdict x → Flowed x room r was masks
+flow-speech {x} room r f e g =
+    record { verdict = g ∙ sym (room-is x room ∙ after-accepted (foundVerdict x room) _ (sym (f .verdict) ∙ e)); left = f .left }
 
 pub to-speech : {s : List ℕ} {i : Image} {uses defs leads masks ways : List ℕ} → Flowing s i uses defs leads masks ways → (ways' : List ℕ)
     → length ways' ≡ length ways → SpeechLent s i ways'
 to-speech m w e = record { rooted = m .masked .rooted; room = omega (arith, m .waysSize) }
 
 -- 8 to 12
-pub trees-stays : (room : ℕ) {x : Tables} {n : ℕ} {v : Verdict} {uses defs leads : List ℕ} (y : Refusal) (was masks : List ℕ) → Ruled x n v uses defs leads
-    → v ≡ Refused y → Gives (treesVerdict x room) x v was masks
+pub trees-stays : (room : ℕ) {x : Tables} {n : ℕ} {v : Verdict} {uses defs leads : List ℕ} (y : Refusal) (was : List ℕ) → Ruled x n v uses defs leads
+    → v ≡ Refused y → Judged x room v was was
 unfolding treesVerdict
-trees-stays room {x} y was masks f e =
-    record { verdict = e ∙ sym (after-refused (rulesVerdict x) _ y (sym (f .verdict) ∙ e)); sets = λ a. no-refusal y (sym e ∙ a) }
+trees-stays room {x} y was f e =
+    let k = sym (f .verdict) ∙ e in
+    record { verdict = e ∙ sym (after-refused (rulesVerdict x) _ y k); left = sym (leaves-none (rulesVerdict x) _ x was y k) }
 
 pub trees-flow : (room : ℕ) {x : Tables} {n : ℕ} {v : Verdict} {uses defs leads : List ℕ} (r : Verdict) {was masks : List ℕ} → Ruled x n v uses defs leads
-    → v ≡ Accepted → Gives (roomVerdict x room) x r was masks → Gives (treesVerdict x room) x r was masks
+    → v ≡ Accepted → Flowed x room r was masks → Judged x room r was masks
 unfolding treesVerdict
-trees-flow room {x} r f e g = record { verdict = g .verdict ∙ sym (after-accepted (rulesVerdict x) _ (sym (f .verdict) ∙ e)); sets = g .sets }
+trees-flow room {x} r {was} f e g =
+    let k = sym (f .verdict) ∙ e in
+    record { verdict = g .verdict ∙ sym (after-accepted (rulesVerdict x) _ k); left = g .left ∙ sym (leaves-on (rulesVerdict x) _ x was k) }
 
 -- 1 to 12
-pub check-trees : (s : List ℕ) (room : ℕ) → checkVerdict s room ≡ after (tablesVerdict s) (treesVerdict (tablesOf s) room)
-unfolding checkVerdict tablesVerdict treesVerdict roomVerdict
-check-trees s room =
-    let x = tablesOf s in
-    let z = after (unless (leb (length (x .states)) room) SetsShort) (flowVerdict x) in
-    ap (λ (v : Verdict). after v z) (image-is s ∙ sym (after-assoc (headerVerdict s) (rowsVerdict x) (rulesVerdict x)))
-    ∙ after-assoc (after (headerVerdict s) (rowsVerdict x)) (rulesVerdict x) z
+image-tables : (s : List ℕ) → imageVerdict s ≡ after (tablesVerdict s) (rulesVerdict (tablesOf s))
+unfolding tablesVerdict
+image-tables s = image-is s ∙ sym (after-assoc (headerVerdict s) (rowsVerdict (tablesOf s)) (rulesVerdict (tablesOf s)))
 
-pub judge-stays : (s : List ℕ) (room : ℕ) {v : Verdict} (y : Refusal) (was masks : List ℕ) → v ≡ tablesVerdict s → v ≡ Refused y
-    → Gives (checkVerdict s room) (tablesOf s) v was masks
-judge-stays s room y was masks f e =
-    record { verdict = e ∙ sym (check-trees s room ∙ after-refused (tablesVerdict s) _ y (sym f ∙ e)); sets = λ a. no-refusal y (sym e ∙ a) }
+after-image : (s : List ℕ) (w : Verdict) → after (imageVerdict s) w ≡ after (tablesVerdict s) (after (rulesVerdict (tablesOf s)) w)
+after-image s w = ap (λ (v : Verdict). after v w) (image-tables s) ∙ after-assoc (tablesVerdict s) (rulesVerdict (tablesOf s)) w
+
+check-trees : (s : List ℕ) (room : ℕ) → checkVerdict s room ≡ after (tablesVerdict s) (treesVerdict (tablesOf s) room)
+unfolding checkVerdict treesVerdict roomVerdict
+check-trees s room = after-image s _
+
+pub judge-stays : (s : List ℕ) (room : ℕ) {v : Verdict} (y : Refusal) (was : List ℕ) → v ≡ tablesVerdict s → v ≡ Refused y → Checks s room v was was
+judge-stays s room y was f e =
+    let k = sym f ∙ e in
+    record {
+      verdict = e ∙ sym (check-trees s room ∙ after-refused (tablesVerdict s) _ y k);
+      left = sym (ap (λ (u : Verdict). leaves u (tablesOf s) was) (after-image s _) ∙ leaves-none (tablesVerdict s) _ (tablesOf s) was y k);
+    }
 
 pub judge-trees : (s : List ℕ) (room : ℕ) {v : Verdict} (r : Verdict) {was masks : List ℕ} → v ≡ tablesVerdict s → v ≡ Accepted
-    → Gives (treesVerdict (tablesOf s) room) (tablesOf s) r was masks → Gives (checkVerdict s room) (tablesOf s) r was masks
-judge-trees s room r f e g =
-    record { verdict = g .verdict ∙ sym (check-trees s room ∙ after-accepted (tablesVerdict s) _ (sym f ∙ e)); sets = g .sets }
+    → Judged (tablesOf s) room r was masks → Checks s room r was masks
+judge-trees s room r {was} f e g =
+    let k = sym f ∙ e in
+    record {
+      verdict = g .verdict ∙ sym (check-trees s room ∙ after-accepted (tablesVerdict s) _ k);
+      left = g .left ∙ sym (ap (λ (u : Verdict). leaves u (tablesOf s) was) (after-image s _) ∙ leaves-on (tablesVerdict s) _ (tablesOf s) was k);
+    }
+
+-- what an accepted image has passed
+module _ (s : List ℕ) (room : ℕ) (e : checkVerdict s room ≡ Accepted) where
+  both : (tablesVerdict s ≡ Accepted) × (treesVerdict (tablesOf s) room ≡ Accepted)
+  both = after-both (tablesVerdict s) (treesVerdict (tablesOf s) room) (sym (check-trees s room) ∙ e)
+
+  pub accepted-tables : tablesVerdict s ≡ Accepted
+  accepted-tables = both .0
+
+  rules-and-room : (rulesVerdict (tablesOf s) ≡ Accepted) × (roomVerdict (tablesOf s) room ≡ Accepted)
+  unfolding treesVerdict
+  rules-and-room = after-both (rulesVerdict (tablesOf s)) (roomVerdict (tablesOf s) room) (both .1)
+
+  room-passed : roomStage (tablesOf s) room ≡ Accepted
+  unfolding roomVerdict
+  room-passed = after-both (roomStage (tablesOf s) room) (flowVerdict (tablesOf s)) (rules-and-room .1) .0
+
+  pub accepted-room : length (tablesOf s .states) ≤ room
+  accepted-room = leb-true _ room (unless-true _ SetsShort room-passed)
+
+  pub accepted-leaves : (was : List ℕ) → leaves (after (imageVerdict s) (roomStage (tablesOf s) room)) (tablesOf s) was
+      ≡ setsOf (tablesOf s) ++ drop (length (tablesOf s .states)) was
+  unfolding leaves
+  accepted-leaves was =
+      let x = tablesOf s in
+      ap (λ (u : Verdict). leaves u x was) (after-image s _ ∙ after-accepted (tablesVerdict s) _ (both .0)
+      ∙ after-accepted (rulesVerdict x) _ (rules-and-room .0) ∙ room-passed)
 
 pub trailer-there : (s : List ℕ) {v : Verdict} → v ≡ tablesVerdict s → v ≡ Accepted → 16 ≤ length s
 unfolding tablesVerdict
 trailer-there s f e = trailer-inside s (after-both (headerVerdict s) (rowsVerdict (tablesOf s)) (sym f ∙ e) .0)
 
-pub to-trees : {s : List ℕ} {i : Image} {uses defs leads masks ways : List ℕ} → Rooted s i → Scratch uses defs leads masks ways
-    → Treeing s i uses defs leads masks ways
-to-trees r m =
-    let l = laid (r .formed .located) in
+-- scratch for so many rows
+pub to-trees : {s : List ℕ} {i : Image} {most : ℕ} {uses defs leads masks ways : List ℕ} → Sized s i most masks → most ≤ length uses → most ≤ length defs
+    → most ≤ length leads → most ≤ length ways → Treeing s i uses defs leads masks ways
+to-trees z u d l w =
     record {
       lent = record {
-        rooted = r;
-        usesSize = omega (arith, l .rowsMost, m .usesSize);
-        defsSize = omega (arith, l .rowsMost, m .defsSize);
-        leadsSize = omega (arith, l .rowsMost, m .leadsSize);
+        rooted = z .rooted;
+        usesSize = omega (arith, z .rows, u);
+        defsSize = omega (arith, z .rows, d);
+        leadsSize = omega (arith, z .rows, l);
       };
-      room = m .room;
-      waysSize = omega (arith, l .rowsMost, m .waysSize);
+      room = z .room;
+      waysSize = omega (arith, z .rows, w);
     }
+
+pub to-sized : {s : List ℕ} {i : Image} {masks : List ℕ} → Rooted s i → 64 ≤ length masks → Sized s i 2048 masks
+to-sized r m = record { rooted = r; rows = laid (r .formed .located) .rowsMost; room = m }
+
+pub smaller : {s : List ℕ} {i : Image} {most : ℕ} {masks : List ℕ} (n : ℕ) → Sized s i most masks → rowCount i ≤ n → Sized s i n masks
+smaller n z h = record { rooted = z .rooted; rows = h; room = z .room }
 
 pub rooted-there : (s : List ℕ) (i : Image) {v : Verdict} → i ≡ trailerOf s → v ≡ tablesVerdict s → v ≡ Accepted → Rooted s i
 rooted-there s i t f e = rooted-of s i t (sym f ∙ e)

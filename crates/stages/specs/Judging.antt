@@ -2,11 +2,11 @@
 use mathlib.Core.{Path._≡_, List.List, List._++_}
 use Prim.Native.Nat.{ℕ, _≤_}
 use lib.{Dec.leb, ListN.length, ListN.drop}
-use Rattle.model.specs.declared.{Image.Image, Verdict.Verdict, Verdict.the-variants.Accepted, Refusal.the-variants.SetsShort, Refusal.the-variants.Initialisation}
+use Rattle.model.specs.declared.{Image.Image, Verdict.Verdict, Verdict.the-variants.Accepted, Verdict.the-variants.Refused, Refusal.the-variants.SetsShort, Refusal.the-variants.Initialisation}
 use Rattle.model.specs.Answers.{state, after, unless, each}
 use Rattle.model.specs.Image.{Tables, tablesOf, rowCount, stateCount}
 use Rattle.model.specs.Largest.{reachedOf, setsOf, initialised}
-use Rattle.model.specs.Calls.{rowsVerdict, rulesVerdict, flowVerdict}
+use Rattle.model.specs.Calls.{rowsVerdict, rulesVerdict, imageVerdict, flowVerdict, checkVerdict}
 use Rattle.image.specs.Located.{Rooted, headerVerdict}
 use Rattle.masks.specs.Masks.{Filled}
 
@@ -32,34 +32,46 @@ pub record Masked (s : List ℕ) (i : Image) (uses defs leads masks : List ℕ) 
   pub filled : Filled (tablesOf s) (rowCount i) uses defs leads
   pub room : 64 ≤ length masks
 
+-- 10
+abbrev pub roomStage : Tables → ℕ → Verdict
+roomStage x room = unless (leb (length (x .states)) room) SetsShort
+
+-- the masks that stages leave: the sets, where none before them refuses
+unfoldable pub leaves : Verdict → Tables → List ℕ → List ℕ
+leaves Accepted x was = setsOf x ++ drop (length (x .states)) was
+leaves (Refused y) x was = was
+
+-- a verdict, and the masks that it leaves
+pub record Gives (v stop : Verdict) (x : Tables) (r : Verdict) (was masks : List ℕ) : Type 0 where
+  pub verdict : r ≡ v
+  pub left : masks ≡ leaves stop x was
+
 -- 10 and 11
 unfoldable pub foundVerdict : Tables → ℕ → Verdict
 foundVerdict x room =
-    after (unless (leb (length (x .states)) room) SetsShort)
-    (each (initialised x (reachedOf x) (setsOf x)) (length (x .states)) (λ s. Initialisation (state s)))
+    after (roomStage x room) (each (initialised x (reachedOf x) (setsOf x)) (length (x .states)) (λ s. Initialisation (state s)))
 
--- and the sets, where it refuses nothing
-pub record Found (x : Tables) (room : ℕ) (r : Verdict) (was masks : List ℕ) : Type 0 where
-  pub verdict : r ≡ foundVerdict x room
-  pub sets : r ≡ Accepted → masks ≡ setsOf x ++ drop (length (x .states)) was
+abbrev pub Found : Tables → ℕ → Verdict → List ℕ → List ℕ → Type 0
+Found x room = Gives (foundVerdict x room) (roomStage x room) x
 
 -- and room for the ways of its rows
 pub record Flowing (s : List ℕ) (i : Image) (uses defs leads masks ways : List ℕ) : Type 0 where
   pub masked : Masked s i uses defs leads masks
   pub waysSize : rowCount i ≤ length ways
 
--- a verdict, and the sets where it refuses nothing
-pub record Gives (v : Verdict) (x : Tables) (r : Verdict) (was masks : List ℕ) : Type 0 where
-  pub verdict : r ≡ v
-  pub sets : r ≡ Accepted → masks ≡ setsOf x ++ drop (length (x .states)) was
-
 -- 10 to 12
 unfoldable pub roomVerdict : Tables → ℕ → Verdict
-roomVerdict x room = after (unless (leb (length (x .states)) room) SetsShort) (flowVerdict x)
+roomVerdict x room = after (roomStage x room) (flowVerdict x)
+
+abbrev pub Flowed : Tables → ℕ → Verdict → List ℕ → List ℕ → Type 0
+Flowed x room = Gives (roomVerdict x room) (roomStage x room) x
 
 -- 8 to 12
 unfoldable pub treesVerdict : Tables → ℕ → Verdict
 treesVerdict x room = after (rulesVerdict x) (roomVerdict x room)
+
+abbrev pub Judged : Tables → ℕ → Verdict → List ℕ → List ℕ → Type 0
+Judged x room = Gives (treesVerdict x room) (after (rulesVerdict x) (roomStage x room)) x
 
 -- an image free of 1 to 7, and room for all that its stages fill in
 pub record Treeing (s : List ℕ) (i : Image) (uses defs leads masks ways : List ℕ) : Type 0 where
@@ -67,10 +79,12 @@ pub record Treeing (s : List ℕ) (i : Image) (uses defs leads masks ways : List
   pub room : 64 ≤ length masks
   pub waysSize : rowCount i ≤ length ways
 
--- room for any image
-pub record Scratch (uses defs leads masks ways : List ℕ) : Type 0 where
-  pub usesSize : 2048 ≤ length uses
-  pub defsSize : 2048 ≤ length defs
-  pub leadsSize : 2048 ≤ length leads
+-- an image free of 1 to 7 with at most so many rows, and room for 64 sets
+pub record Sized (s : List ℕ) (i : Image) (most : ℕ) (masks : List ℕ) : Type 0 where
+  pub rooted : Rooted s i
+  pub rows : rowCount i ≤ most
   pub room : 64 ≤ length masks
-  pub waysSize : 2048 ≤ length ways
+
+-- 1 to 12
+abbrev pub Checks : List ℕ → ℕ → Verdict → List ℕ → List ℕ → Type 0
+Checks s room = Gives (checkVerdict s room) (after (imageVerdict s) (roomStage (tablesOf s) room)) (tablesOf s)

@@ -2,12 +2,13 @@
 ghost use mathlib.Core.Path.{_≡_};
 ghost use lib.ListN.{length};
 ghost use Rattle.model.specs.Image.{tablesOf, rowCount};
-ghost use Rattle.stages.specs.Judging.{tablesVerdict, Lent, Ruled, Masked, Found, Flowing, Gives, roomVerdict, Treeing, treesVerdict, Scratch};
-ghost use Rattle.model.specs.Calls.{checkVerdict};
+ghost use Prim.Native.Nat.{_≤_};
+ghost use Rattle.stages.specs.Judging.{tablesVerdict, Lent, Ruled, Masked, Found, Flowing, Flowed, Treeing, Judged, Sized, Checks};
 use binding::binding_verdict;
 use header::header;
 use image::trailer;
 use masks::fill;
+use masks::row_count;
 use model::Image;
 use model::Refusal;
 use model::Verdict;
@@ -74,7 +75,7 @@ fn flow(
     ways: &mut [u8],
 ) -> Verdict
     requires { ⌜ Flowing (now image) i (now uses) (now defs) (now leads) (now masks) (now ways) ⌝ }
-    ensures { λ r. ⌜ Gives (roomVerdict (tablesOf (now (image .entry))) room) (tablesOf (now (image .entry))) r (now (masks .entry)) (now (masks .exit)) ⌝ }
+    ensures { λ r. ⌜ Flowed (tablesOf (now (image .entry))) room r (now (masks .entry)) (now (masks .exit)) ⌝ }
 {
     let v = found(image, i, room, uses, defs, leads, masks);
     match v {
@@ -95,7 +96,7 @@ fn trees(
     ways: &mut [u8],
 ) -> Verdict
     requires { ⌜ Treeing (now image) i (now uses) (now defs) (now leads) (now masks) (now ways) ⌝ }
-    ensures { λ r. ⌜ Gives (treesVerdict (tablesOf (now (image .entry))) room) (tablesOf (now (image .entry))) r (now (masks .entry)) (now (masks .exit)) ⌝ }
+    ensures { λ r. ⌜ Judged (tablesOf (now (image .entry))) room r (now (masks .entry)) (now (masks .exit)) ⌝ }
 {
     let v = rules(image, i, uses, defs, leads);
     match v {
@@ -104,25 +105,92 @@ fn trees(
     }
 }
 
-// 1 to 12, with room for so many sets.
-pub fn judge(
-    image: &[u8],
-    room: usize,
-    uses: &mut [u64],
-    defs: &mut [u64],
-    leads: &mut [u64],
-    masks: &mut [u64],
-    ways: &mut [u8],
-) -> Verdict
-    requires { ⌜ Scratch (now uses) (now defs) (now leads) (now masks) (now ways) ⌝ }
-    ensures { λ r. ⌜ Gives (checkVerdict (now (image .entry)) room) (tablesOf (now (image .entry))) r (now (masks .entry)) (now (masks .exit)) ⌝ }
+// The same on scratch for 128 rows, for 512 and for any image: to clear it costs time, and most images are small.
+fn small(image: &[u8], i: Image, room: usize, masks: &mut [u64]) -> Verdict
+    requires { ⌜ Sized (now image) i 128 (now masks) ⌝ }
+    ensures { λ r. ⌜ Judged (tablesOf (now (image .entry))) room r (now (masks .entry)) (now (masks .exit)) ⌝ }
+{
+    let mut uses = [0u64; 128];
+    let mut defs = [0u64; 128];
+    let mut leads = [0u64; 128];
+    let mut ways = [0u8; 128];
+    trees(
+        image,
+        i,
+        room,
+        &mut uses,
+        &mut defs,
+        &mut leads,
+        masks,
+        &mut ways,
+    )
+}
+
+fn medium(image: &[u8], i: Image, room: usize, masks: &mut [u64]) -> Verdict
+    requires { ⌜ Sized (now image) i 512 (now masks) ⌝ }
+    ensures { λ r. ⌜ Judged (tablesOf (now (image .entry))) room r (now (masks .entry)) (now (masks .exit)) ⌝ }
+{
+    let mut uses = [0u64; 512];
+    let mut defs = [0u64; 512];
+    let mut leads = [0u64; 512];
+    let mut ways = [0u8; 512];
+    trees(
+        image,
+        i,
+        room,
+        &mut uses,
+        &mut defs,
+        &mut leads,
+        masks,
+        &mut ways,
+    )
+}
+
+fn large(image: &[u8], i: Image, room: usize, masks: &mut [u64]) -> Verdict
+    requires { ⌜ Sized (now image) i 2048 (now masks) ⌝ }
+    ensures { λ r. ⌜ Judged (tablesOf (now (image .entry))) room r (now (masks .entry)) (now (masks .exit)) ⌝ }
+{
+    let mut uses = [0u64; Image::ROWS as usize];
+    let mut defs = [0u64; Image::ROWS as usize];
+    let mut leads = [0u64; Image::ROWS as usize];
+    let mut ways = [0u8; Image::ROWS as usize];
+    trees(
+        image,
+        i,
+        room,
+        &mut uses,
+        &mut defs,
+        &mut leads,
+        masks,
+        &mut ways,
+    )
+}
+
+fn sized(image: &[u8], i: Image, room: usize, masks: &mut [u64]) -> Verdict
+    requires { ⌜ Sized (now image) i 2048 (now masks) ⌝ }
+    ensures { λ r. ⌜ Judged (tablesOf (now (image .entry))) room r (now (masks .entry)) (now (masks .exit)) ⌝ }
+{
+    let n = row_count(image, i);
+    if n <= 128 {
+        return small(image, i, room, masks);
+    }
+    if n <= 512 {
+        return medium(image, i, room, masks);
+    }
+    large(image, i, room, masks)
+}
+
+// 1 to 12, with room for so many sets, which are left in the masks.
+pub fn judge(image: &[u8], room: usize, masks: &mut [u64]) -> Verdict
+    requires { ⌜ 64 ≤ length (now masks) ⌝ }
+    ensures { λ r. ⌜ Checks (now (image .entry)) room r (now (masks .entry)) (now (masks .exit)) ⌝ }
 {
     let v = tables(image);
     match v {
         Verdict::Refused(_) => v,
         Verdict::Accepted => {
             let i = trailer(image);
-            trees(image, i, room, uses, defs, leads, masks, ways)
+            sized(image, i, room, masks)
         }
     }
 }

@@ -1,7 +1,7 @@
 use borrow.Author.Needs.{needs}
 use native.Mathlib.Omega.{arith}
 use Rattle.stages.proofs.Stages.{states-order}
-use Rattle.ntif.proofs.Checking.{accepted-trailer, accepted-rooted, accepted-room, accepted-count, accepted-most, bytes-refused, bytes-accepted}
+use Rattle.ntif.proofs.Checking.{accepted-trailer, accepted-rooted, accepted-fits, accepted-count, accepted-most, bytes-refused, bytes-accepted}
 use Rattle.ntif.proofs.check_bytes_on.Statement.{statement}
 use Rattle.ntif.proofs.check_bytes_on.Tie as tie
 use Rattle.ntif.proofs.check_bytes_on.Reads as reads
@@ -11,100 +11,69 @@ use Rattle.ntif.proofs.pack_verdict.Reads as pack-verdict-reads
 use Rattle.stages.proofs.judge.Reads as judge-reads
 use Rattle.words.proofs.put_masks.Reads as put-masks-reads
 
--- src/lib.rt:93:9
+-- src/lib.rt:64:9
 judge-requires : tie.Need-judge-requires
 judge-requires c κs = search needs
 
--- src/lib.rt:95:32
+-- src/lib.rt:66:32
 enum-told : tie.Need-enum-told
 enum-told c = search needs
 
--- src/lib.rt:95:32
+-- src/lib.rt:66:32
 pack-verdict-requires : tie.Need-pack-verdict-requires
 pack-verdict-requires c κs = search needs
 
--- src/lib.rt:97:17
+-- src/lib.rt:68:17
 enum-told-2 : tie.Need-enum-told-2
 enum-told-2 c = search needs
 
--- src/lib.rt:97:17
+-- src/lib.rt:68:17
 trailer-requires : tie.Need-trailer-requires
-trailer-requires c κs = accepted-trailer _ _ (c .before .before .before .before .before .before .before .before .before .before .before .before .judge .ensures .verdict) (c .enum-told2 .given .1)
+trailer-requires c κs = accepted-trailer _ _ (c .before .before .before .before .judge .ensures .verdict) (c .enum-told2 .given .1)
 
--- src/lib.rt:98:38
+-- src/lib.rt:69:38
 sub-put-masks : tie.Need-sub-put-masks
-sub-put-masks c = states-order (accepted-rooted _ _ (c .before .before .before .before .before .before .before .before .before .before .before .before .before .before .before .before .judge .ensures .verdict) (c .before .before .before .before .enum-told2 .given .1) _ (c .before .before .before .trailer .ensures))
+sub-put-masks c = states-order (accepted-rooted _ _ (c .before .before .before .before .before .before .before .before .judge .ensures .verdict) (c .before .before .before .before .enum-told2 .given .1) _ (c .before .before .before .trailer .ensures))
 
--- src/lib.rt:98:36
+-- src/lib.rt:69:36
 cast-put-masks : tie.Need-cast-put-masks
 cast-put-masks c = search needs
 
--- src/lib.rt:98:13
+-- src/lib.rt:69:13
 put-masks-requires : tie.Need-put-masks-requires
 put-masks-requires c κs =
-    let v = c .before .before .before .before .before .before .before .before .before .before .before .before .before .before .before .before .judge .ensures .verdict in
+    let v = c .before .before .before .before .before .before .before .before .judge .ensures .verdict in
     let e = c .before .before .before .before .enum-told2 .given .1 in
     let n = accepted-count _ _ v e _ (c .before .before .before .trailer .ensures) in
-    (omega (arith, n, accepted-most _ _ v e, c .before .before .before .before .before .before .before .before .before .before .before .before .before .before .before .before .before .before .before .before .before .before .before .before .before .before .before .before .before .pre .room), omega (arith, n, accepted-room _ _ v e))
+    (omega (arith, n, accepted-most _ _ v e, c .before .before .before .before .before .before .before .before .before .before .before .before .before .pre), omega (arith, n, accepted-fits _ _ v e))
 
--- src/lib.rt:99:13
+-- src/lib.rt:70:13
 pack-verdict-requires-2 : tie.Need-pack-verdict-requires-2
 pack-verdict-requires-2 c κs = search needs
 
--- src/lib.rt:81:1
+-- src/lib.rt:60:1
 same-length : tie.Need-same-length
 same-length c = search needs
 
--- src/lib.rt:81:1
+-- src/lib.rt:60:1
+returns : tie.Need-returns
+returns c =
+    bytes-refused _ (c .before .before .before .before .before .before .before .before .before .before .args .sets .now) (λ j. omega (arith, c .before .before .before .before .before .before .before .before .slice-known .given j)) _ (c .before .before .before .before .before .judge .ensures .verdict) (c .before .enum-told .given .1) (c .pack-verdict .ensures)
+
+-- src/lib.rt:60:1
 same-length-2 : tie.Need-same-length-2
 same-length-2 c = search needs
 
--- src/lib.rt:81:1
+-- src/lib.rt:60:1
 same-length-3 : tie.Need-same-length-3
 same-length-3 c = search needs
 
--- src/lib.rt:81:1
-same-length-4 : tie.Need-same-length-4
-same-length-4 c = search needs
-
--- src/lib.rt:81:1
-same-length-5 : tie.Need-same-length-5
-same-length-5 c = search needs
-
--- src/lib.rt:81:1
-returns : tie.Need-returns
-returns c = bytes-refused _ (c .before .before .before .before .before .before .before .before .before .before .before .before .before .before .before .before .before .before .before .before .before .before .before .before .before .before .args .sets .now) (λ j. omega (arith, c .before .before .before .before .before .before .before .before .before .before .before .before .before .before .before .before .before .before .before .before .before .before .before .before .slice-known .given j)) _ (c .before .before .before .before .before .before .before .before .before .before .before .before .before .judge .ensures .verdict) (c .before .enum-told .given .1) (c .pack-verdict .ensures)
-
--- src/lib.rt:81:1
-same-length-6 : tie.Need-same-length-6
-same-length-6 c = search needs
-
--- src/lib.rt:81:1
-same-length-7 : tie.Need-same-length-7
-same-length-7 c = search needs
-
--- src/lib.rt:81:1
-same-length-8 : tie.Need-same-length-8
-same-length-8 c = search needs
-
--- src/lib.rt:81:1
-same-length-9 : tie.Need-same-length-9
-same-length-9 c = search needs
-
--- src/lib.rt:81:1
-same-length-10 : tie.Need-same-length-10
-same-length-10 c = search needs
-
--- src/lib.rt:81:1
-same-length-11 : tie.Need-same-length-11
-same-length-11 c = search needs
-
--- src/lib.rt:81:1
+-- src/lib.rt:60:1
 returns-2 : tie.Need-returns-2
 returns-2 c =
-    let g = c .before .before .before .before .before .before .before .before .before .before .before .before .before .before .before .before .before .before .before .before .judge .ensures in
+    let g = c .before .before .before .before .before .before .before .before .before .before .before .before .judge .ensures in
     let e = c .before .before .before .before .before .before .before .before .enum-told2 .given .1 in
-    bytes-accepted _ (c .before .before .before .before .before .before .before .before .before .before .before .before .before .before .before .before .before .before .before .before .before .before .before .before .before .before .before .before .before .before .before .before .before .args .sets .now) (λ j. omega (arith, c .before .before .before .before .before .before .before .before .before .before .before .before .before .before .before .before .before .before .before .before .before .before .before .before .before .before .before .before .before .before .before .slice-known .given j)) _ g e (accepted-count _ _ (g .verdict) e _ (c .before .before .before .before .before .before .before .trailer .ensures)) (c .before .before .before .put-masks .ensures) (c .pack-verdict2 .ensures)
+    bytes-accepted _ (c .before .before .before .before .before .before .before .before .before .before .before .before .before .before .before .before .before .args .sets .now) (λ j. omega (arith, c .before .before .before .before .before .before .before .before .before .before .before .before .before .before .before .slice-known .given j)) _ g e (accepted-count _ _ (g .verdict) e _ (c .before .before .before .before .before .before .before .trailer .ensures)) (c .before .before .before .put-masks .ensures) (c .pack-verdict2 .ensures)
 
 pub check-bytes-on-spec : {M : Type 1} → statement M
 check-bytes-on-spec =
@@ -120,15 +89,7 @@ check-bytes-on-spec =
     put-masks-requires
     pack-verdict-requires-2
     same-length
+    returns
     same-length-2
     same-length-3
-    same-length-4
-    same-length-5
-    returns
-    same-length-6
-    same-length-7
-    same-length-8
-    same-length-9
-    same-length-10
-    same-length-11
     returns-2)

@@ -1,7 +1,7 @@
 use borrow.Author.Needs.{needs}
 use native.Mathlib.Omega.{arith}
 use Rattle.stages.proofs.Stages.{states-order}
-use Rattle.ntif.proofs.Checking.{accepted-trailer, accepted-rooted, accepted-room, accepted-count, accepted-most, checked-refused, checked-accepted}
+use Rattle.ntif.proofs.Checking.{accepted-trailer, accepted-rooted, accepted-fits, accepted-count, accepted-most, checked-refused, checked-accepted}
 use Rattle.ntif.proofs.check_on.Statement.{statement}
 use Rattle.ntif.proofs.check_on.Tie as tie
 use Rattle.ntif.proofs.check_on.Reads as reads
@@ -10,90 +10,58 @@ use Rattle.image.proofs.trailer.Reads as trailer-reads
 use Rattle.ntif.proofs.copy.Reads as copy-reads
 use Rattle.stages.proofs.judge.Reads as judge-reads
 
--- src/lib.rt:37:9
+-- src/lib.rt:30:9
 judge-requires : tie.Need-judge-requires
 judge-requires c κs = search needs
 
--- src/lib.rt:39:32
+-- src/lib.rt:32:32
 enum-told : tie.Need-enum-told
 enum-told c = search needs
 
--- src/lib.rt:41:17
+-- src/lib.rt:34:17
 enum-told-2 : tie.Need-enum-told-2
 enum-told-2 c = search needs
 
--- src/lib.rt:41:17
+-- src/lib.rt:34:17
 trailer-requires : tie.Need-trailer-requires
-trailer-requires c κs = accepted-trailer _ _ (c .before .before .before .before .before .before .before .before .before .before .before .before .judge .ensures .verdict) (c .enum-told2 .given .1)
+trailer-requires c κs = accepted-trailer _ _ (c .before .before .before .before .judge .ensures .verdict) (c .enum-told2 .given .1)
 
--- src/lib.rt:42:33
+-- src/lib.rt:35:33
 sub-copy : tie.Need-sub-copy
-sub-copy c = states-order (accepted-rooted _ _ (c .before .before .before .before .before .before .before .before .before .before .before .before .before .before .before .before .judge .ensures .verdict) (c .before .before .before .before .enum-told2 .given .1) _ (c .before .before .before .trailer .ensures))
+sub-copy c = states-order (accepted-rooted _ _ (c .before .before .before .before .before .before .before .before .judge .ensures .verdict) (c .before .before .before .before .enum-told2 .given .1) _ (c .before .before .before .trailer .ensures))
 
--- src/lib.rt:42:31
+-- src/lib.rt:35:31
 cast-copy : tie.Need-cast-copy
 cast-copy c = search needs
 
--- src/lib.rt:42:13
+-- src/lib.rt:35:13
 copy-requires : tie.Need-copy-requires
 copy-requires c κs =
-    let v = c .before .before .before .before .before .before .before .before .before .before .before .before .before .before .before .before .judge .ensures .verdict in
+    let v = c .before .before .before .before .before .before .before .before .judge .ensures .verdict in
     let e = c .before .before .before .before .enum-told2 .given .1 in
     let n = accepted-count _ _ v e _ (c .before .before .before .trailer .ensures) in
-    (omega (arith, n, accepted-most _ _ v e, c .before .before .before .before .before .before .before .before .before .before .before .before .before .before .before .before .before .before .before .before .before .before .before .before .before .before .before .before .before .pre .room), omega (arith, n, accepted-room _ _ v e))
+    (omega (arith, n, accepted-most _ _ v e, c .before .before .before .before .before .before .before .before .before .before .before .before .before .pre), omega (arith, n, accepted-fits _ _ v e))
 
--- src/lib.rt:25:1
+-- src/lib.rt:26:1
 same-length : tie.Need-same-length
 same-length c = search needs
 
--- src/lib.rt:25:1
+-- src/lib.rt:26:1
+returns : tie.Need-returns
+returns c = checked-refused _ _ _ (c .before .before .before .before .judge .ensures .verdict) (c .enum-told .given .1)
+
+-- src/lib.rt:26:1
 same-length-2 : tie.Need-same-length-2
 same-length-2 c = search needs
 
--- src/lib.rt:25:1
+-- src/lib.rt:26:1
 same-length-3 : tie.Need-same-length-3
 same-length-3 c = search needs
 
--- src/lib.rt:25:1
-same-length-4 : tie.Need-same-length-4
-same-length-4 c = search needs
-
--- src/lib.rt:25:1
-same-length-5 : tie.Need-same-length-5
-same-length-5 c = search needs
-
--- src/lib.rt:25:1
-returns : tie.Need-returns
-returns c = checked-refused _ _ _ (c .before .before .before .before .before .before .before .before .before .before .before .before .judge .ensures .verdict) (c .enum-told .given .1)
-
--- src/lib.rt:25:1
-same-length-6 : tie.Need-same-length-6
-same-length-6 c = search needs
-
--- src/lib.rt:25:1
-same-length-7 : tie.Need-same-length-7
-same-length-7 c = search needs
-
--- src/lib.rt:25:1
-same-length-8 : tie.Need-same-length-8
-same-length-8 c = search needs
-
--- src/lib.rt:25:1
-same-length-9 : tie.Need-same-length-9
-same-length-9 c = search needs
-
--- src/lib.rt:25:1
-same-length-10 : tie.Need-same-length-10
-same-length-10 c = search needs
-
--- src/lib.rt:25:1
-same-length-11 : tie.Need-same-length-11
-same-length-11 c = search needs
-
--- src/lib.rt:25:1
+-- src/lib.rt:26:1
 returns-2 : tie.Need-returns-2
 returns-2 c =
-    let g = c .before .before .before .before .before .before .before .before .before .before .before .before .before .before .before .before .before .before .before .judge .ensures in
+    let g = c .before .before .before .before .before .before .before .before .before .before .before .judge .ensures in
     let e = c .before .before .before .before .before .before .before .enum-told2 .given .1 in
     checked-accepted _ _ _ g e (accepted-count _ _ (g .verdict) e _ (c .before .before .before .before .before .before .trailer .ensures)) (c .before .before .copy .ensures)
 
@@ -109,15 +77,7 @@ check-on-spec =
     cast-copy
     copy-requires
     same-length
+    returns
     same-length-2
     same-length-3
-    same-length-4
-    same-length-5
-    returns
-    same-length-6
-    same-length-7
-    same-length-8
-    same-length-9
-    same-length-10
-    same-length-11
     returns-2)

@@ -30,7 +30,7 @@ same-length c = search needs
 
 -- src/lib.rt:55:1
 returns : tie.Need-returns
-returns c = flow-stays _ (c .before .before .before .before .found .ensures) (c .enum-told .given .1)
+returns c = flow-stays _ _ (c .before .before .before .before .found .ensures) (c .enum-told .given .1)
 
 -- src/lib.rt:55:1
 same-length-2 : tie.Need-same-length-2
@@ -42,7 +42,7 @@ same-length-3 c = search needs
 
 -- src/lib.rt:55:1
 returns-2 : tie.Need-returns-2
-returns-2 c = flow-speech _ (c .before .before .before .before .before .before .before .before .found .ensures) (c .before .before .before .before .enum-told2 .given .1) (c .before .before .speech-verdict .ensures)
+returns-2 c = flow-speech _ _ (c .before .before .before .before .before .before .before .before .found .ensures) (c .before .before .before .before .enum-told2 .given .1) (c .before .before .speech-verdict .ensures)
 
 pub flow-spec : {M : Type 1} → statement M
 flow-spec =

@@ -17,7 +17,7 @@ cast-if1 c = search needs
 
 -- src/lib.rt:48:9
 returns : tie.Need-returns
-returns c = found-short _ _ _ (c .before .before .before .before .before .before .before .pre .rooted) (c .if1 .taken)
+returns c = found-short _ _ (c .before .before .before .before .before .before .before .pre .rooted) (c .if1 .taken)
 
 -- src/lib.rt:50:5
 sets-verdict-requires : tie.Need-sets-verdict-requires

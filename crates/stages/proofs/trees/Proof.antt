@@ -38,7 +38,7 @@ same-length-3 c = search needs
 
 -- src/lib.rt:77:1
 returns : tie.Need-returns
-returns c = trees-stays _ _ _ _ (c .before .before .before .before .before .before .before .before .rules .ensures) (c .enum-told .given .1)
+returns c = trees-stays _ _ _ (c .before .before .before .before .before .before .before .before .rules .ensures) (c .enum-told .given .1)
 
 -- src/lib.rt:77:1
 same-length-4 : tie.Need-same-length-4
