@@ -1,31 +1,33 @@
--- The largest sets: where the rounds begin, what they keep, that they rest at `setsOf`; and 11 judged there. Assumes nothing.
-use mathlib.Core.{Path._≡_, Path.refl, Path.sym, Path.ap, Path.ap₂, Path._∙_, Path.subst, Bool.Bool, Bool.true, Bool.false, Bool.cond, List.List, List._++_}
-use Prim.Native.Nat.{ℕ, _+_, _≤_, _<_}
+-- The largest sets: where they begin, that they are found when nothing is due; and 11 judged there. Assumes nothing.
+use mathlib.Core.{Path._≡_, Path.refl, Path.sym, Path.ap, Path._∙_, Bool.Bool, Bool.true, Bool.false, Bool.not, Bool.cond, Bool._||_, Bool.Bool·not-not, List.List, List._++_}
+use Prim.Native.Nat.{ℕ, _+_, _*_, _%_, _^_, _≤_, _<_}
 use native.Mathlib.{Omega.arith, Decide.ℕ-discrete}
-use lib.{Dec.eqb, ListN.length, ListN.getD, ListN.drop, ListN.set, ListN.length-set, Seq.getD-set-same, Seq.getD-set-other, Seq.ext-getD}
-use borrow.Author.Tests.{ne-eqb, eqb-true}
+use lib.{Bits.bitOr, Dec.eqb, ListN.length, ListN.getD, ListN.drop, ListN.set, ListN.length-set, Seq.getD-set-same, Seq.getD-set-other, Seq.ext-getD}
+use borrow.Author.Tests.{ne-eqb, eqb-true, eqb-false}
 use Rattle.model.specs.declared.{Image.Image, Verdict.Verdict, Verdict.the-variants.Accepted, Verdict.the-variants.Refused, Refusal.the-variants.Initialisation}
-use Rattle.model.specs.Answers.{state, each, lowest}
-use Rattle.model.specs.Masks.{has, full}
-use Rattle.model.specs.Image.{Tables, none, tablesOf, variableCount}
+use Rattle.model.specs.Answers.{state}
+use Rattle.model.specs.Masks.{digit, Has, has, full}
+use Rattle.model.specs.Image.{Tables, none, tablesOf, stateCount, variableCount}
 use Rattle.model.specs.Binding.{parametersOf}
 use Rattle.model.specs.Decode.{actionAt, act}
-use Rattle.model.specs.Sets.{fine, jumps}
-use Rattle.model.specs.Largest.{topOf, Sub, Reached, Largest, reachedOf, sum, begun, setsOf, initialised}
+use Rattle.model.specs.Sets.{fine}
+use Rattle.model.specs.Largest.{topOf, Sub, Reached, Largest, reachedOf, begun, setsOf, initialised}
 use Rattle.model.proofs.Bytes.{length-table, getD-table}
-use Rattle.model.proofs.Masks.{sub-refl}
-use Rattle.model.proofs.Order.{lowest-pass, each-full, each-refuses}
-use Rattle.image.specs.Located.{Rooted}
+use Rattle.model.proofs.Masks.{digit-le, digit-zero, has-digit, digit-has, sub-refl}
+use Rattle.model.proofs.Order.{lowest-full, each-accepts, each-refuses}
+use Rattle.image.specs.Located.{StateOf, Rooted}
 use Rattle.image.proofs.Laid.{laid, variables-count, states-count}
-use Rattle.demands.proofs.Greatest.{Leads, reached-in, at-rest, one-largest}
+use Rattle.demands.proofs.Greatest.{Leads, reached-all, reached-in, at-rest, one-largest}
 use Rattle.demands.proofs.Solved.{sets-length, sets-largest}
+use Rattle.demands.proofs.Reaching.{reached-sound, reached-found}
 use Rattle.sets.specs.declared.Went.{Went}
-use Rattle.sets.specs.Flow.{flow, Walked}
-use Rattle.sets.specs.States.{setAt, Beginning, Above, Given, Rounded, Judged, EachState, Found}
+use Rattle.sets.specs.Flow.{flow, Walked, Ready}
+use Rattle.sets.specs.States.{setAt, Beginning, Above, Given, Lowest, Marked, Settled, Judged, EachState, Found}
 use Rattle.sets.proofs.Entries.{parameters-in}
-use Rattle.sets.proofs.Leading.{leads-of}
-use Rattle.sets.proofs.Tests.{meet-sub}
-use Rattle.sets.proofs.Rounds.{near, by-state, Relaxed, relaxed, reached-has}
+use Rattle.sets.proofs.Leading.{leads-of, lead-inside, lead-is}
+use Rattle.sets.proofs.Relaxing.{near, by-state, state-small, state-ready, relaxed, fine-as}
+use Rattle.sets.proofs.Turning.{Turn, due-as, turn-as}
+use Rattle.sets.proofs.Visiting.{remaining, Done, Visiting, visiting-less, visiting-on}
 
 -- ---- the beginning
 begun-at : (x : Tables) (q : ℕ) → q < length (x .states) → getD (begun x) q 0 ≡ cond (eqb q 0) (parametersOf (x .variables)) (topOf x)
@@ -81,130 +83,114 @@ module _ (x : Tables) (inside : Sub (parametersOf (x .variables)) (topOf x)) whe
     above = λ o f. begun-rule (λ q m. Sub (o q) m) (f .begins) (f .all);
   }
 
--- ---- rounds in turn
-abbrev pub rank : Bool → ℕ
-rank true = 1
-rank false = 0
+-- ---- one walk
+module _ {s : List ℕ} {i : Image} {uses defs leads : List ℕ} {top : ℕ} (g : Given s i uses defs leads top) {was : List ℕ} {due walked wrong : ℕ}
+    (d : Visiting (tablesOf s) was due walked wrong) {k : ℕ} (m : Lowest due k) where
+  pub due-inside : k < length was
+  due-inside = omega (arith, d .stage .size, reached-in (tablesOf s) (leads-of (g .leading .rooted)) k (d .dueIn k (m .here)))
 
-pub record Settling (x : Tables) (l : List ℕ) (moving : Bool) : Type 0 where
-  pub stage : Above x l
-  pub rests : moving ≡ false → (t q : ℕ) → Reached x t → q < length (x .states) → Sub (setAt x l q) (jumps q (topOf x) (setAt x l t) (act x t))
+  due-state : k < stateCount i
+  due-state = state-small g (d .stage) k due-inside
 
-pub settling-first : {x : Tables} {l : List ℕ} → Above x l → Settling x l true
-settling-first a = record { stage = a; rests = λ e. absurd (let z : _≡_ {A = ℕ} 0 1 = cc in omega arith) }
+  pub due-located : StateOf s i k
+  due-located = record { located = g .leading .rooted .formed .located; inside = due-state }
 
-module _ {x : Tables} {n : ℕ} {was now' : List ℕ} {moved : Bool} (r : Rounded x n was now' moved) where
-  pub settling-on : n ≡ length was → Leads x → Above x was → Settling x now' moved
-  settling-on e w a = record {
-    stage = r .stage;
-    rests = λ z t q p h. subst (λ l. Sub (setAt x now' q) (jumps q (topOf x) (setAt x l t) (act x t))) (sym (r .change .still z))
-        (r .along t q (omega (arith, e, a .size, reached-in x w t p)) p h);
-  }
+  module _ {row : ℕ} (e : row ≡ getD (tablesOf s .states) k none) where
+    pub due-lead : row < length leads
+    due-lead = lead-inside (g .leading) k row due-state e
 
-  pub settling-less : (moving : Bool) → moving ≡ true → sum now' + sum now' + rank moved < sum was + sum was + rank moving
-  settling-less moving e = go moved moving e (r .change .falls) (r .change .still)
-    where
-      go : (a b : Bool) → b ≡ true → (a ≡ true → sum now' < sum was) → (a ≡ false → now' ≡ was) → sum now' + sum now' + rank a < sum was + sum was + rank b
-      go true b f h k = rw f (omega (arith, h refl))
-      go false b f h k = rw f (omega (arith, ap sum (k refl)))
+    pub due-ready : Ready s i uses defs row top was
+    due-ready = state-ready g (d .stage) k row due-inside e
 
-module _ {x : Tables} (w : Leads x) (inside : Sub (parametersOf (x .variables)) (topOf x)) where
-  pub settling-last : {l : List ℕ} {moving : Bool} → Settling x l moving → moving ≡ false → l ≡ setsOf x
-  settling-last {l} d e = ext-getD 0 l (setsOf x) same (λ q b. sym (near x l q b) ∙ one-largest x _ _ found (sets-largest x w inside) q ∙ near x (setsOf x) q (omega (arith, same)))
+    module _ (fits : getD leads row 0 < 2 ^ 64) {now' : List ℕ} {v : Went}
+        (w : Walked (flow top (getD was k 0) (actionAt (tablesOf s) row)) was now' v) where
+      abbrev dueThen : ℕ
+      dueThen = due-as k (getD leads row 0) (v .moved) due walked (m .small) (d .dueFits) (d .walkedFits) fits
+
+      turns : Turn k (getD leads row 0) (v .moved) due walked dueThen (bitOr walked (1 * 2 ^ k % 2 ^ 64))
+      turns = turn-as k (getD leads row 0) (v .moved) due walked (m .small) (d .dueFits) (d .walkedFits) fits (m .here)
+
+      pub walk-less : remaining now' dueThen (bitOr walked (1 * 2 ^ k % 2 ^ 64)) < remaining was due walked
+      walk-less = visiting-less d turns (lead-is (g .leading) k row due-state e) (w .change)
+
+      pub walk-on : {wrong' : ℕ} → Marked k (v .fine) wrong wrong' → Visiting (tablesOf s) now' dueThen (bitOr walked (1 * 2 ^ k % 2 ^ 64)) wrong'
+      walk-on j =
+          visiting-on d turns (lead-is (g .leading) k row due-state e) (w .change) (relaxed g (d .stage) k row due-inside e w) j
+          (fine-as g (d .stage) k row due-inside e w)
+
+-- ---- the end: nothing is due
+module _ {x : Tables} (w : Leads x) (inside : Sub (parametersOf (x .variables)) (topOf x)) {l : List ℕ} {due walked wrong : ℕ}
+    (d : Visiting x l due walked wrong) (z : due ≡ 0) where
+  nothing : (q : ℕ) → digit due q ≡ 0
+  nothing q = ap (λ n. digit n q) z ∙ digit-zero q
+
+  walked-all : {t : ℕ} → Reached x t → Has walked t
+  walked-all = reached-all x (λ q. Has walked q) (omega (arith, d .start, nothing 0, digit-le walked 0))
+      (λ t q h k. omega (arith, d .led t q h, nothing q, digit-le walked q))
+
+  done-all : (t : ℕ) → Reached x t → Done x l wrong t
+  done-all t p = d .done t (walked-all p) (nothing t)
+
+  found-sets : l ≡ setsOf x
+  found-sets = ext-getD 0 l (setsOf x) same (λ q b. sym (near x l q b) ∙ one-largest x _ _ found (sets-largest x w inside) q ∙ near x (setsOf x) q (omega (arith, same)))
     where
       same : length l ≡ length (setsOf x)
       same = d .stage .size ∙ sym (sets-length x w inside)
 
       found : Largest x (setAt x l)
-      found = at-rest x w (setAt x l) (record { all = d .stage .all; begins = d .stage .begins; above = d .stage .above }) (d .rests e)
+      found = at-rest x w (setAt x l) (record { all = d .stage .all; begins = d .stage .begins; above = d .stage .above }) (λ t q p. done-all t p .along q)
 
-  -- ---- 11
-  pub largest-above : Above x (setsOf x)
-  largest-above =
-      let h = sets-largest x w inside in
-      record { size = sets-length x w inside; all = h .fits .all; begins = h .fits .begins; above = h .above }
-
-  largest-still : {t : ℕ} {l : List ℕ} → Reached x t → Relaxed x t (setsOf x) l → l ≡ setsOf x
-  largest-still {t} {l} p r = ext-getD 0 l (setsOf x) (r .size)
-      (λ q b. let h : q < length (setsOf x) = omega (arith, r .size) in
-      sym (near x l q b) ∙ r .each q h ∙ meet-sub _ _ (sets-largest x w inside .fits .along t q p) ∙ near x (setsOf x) q h)
-
--- the states below k pass 11
-pub record Judging (x : Tables) (k : ℕ) (l : List ℕ) : Type 0 where
-  pub largest : l ≡ setsOf x
-  pub passed : lowest (initialised x (reachedOf x) (setsOf x)) k ≡ k
-
-module _ (x : Tables) (k : ℕ) where
-  judged-not : has (reachedOf x) k ≡ false → initialised x (reachedOf x) (setsOf x) k ≡ true
+  found-errs : (t : ℕ) → initialised x (reachedOf x) (setsOf x) t ≡ not (has wrong t)
   unfolding initialised
-  judged-not e = rw (initialised, e)
+  found-errs t = go (has (reachedOf x) t) refl
+    where
+      go : (b : Bool) → has (reachedOf x) t ≡ b → (not b || fine (topOf x) (setAt x (setsOf x) t) (act x t)) ≡ not (has wrong t)
+      go true e =
+          let o = done-all t (reached-sound x w t (has-digit (reachedOf x) t e)) in
+          ap (λ m. fine (topOf x) (setAt x m t) (act x t)) (sym found-sets) ∙ sym (ap not (o .judged) ∙ Bool·not-not _)
+      go false e =
+          let n : Has wrong t → ⊥ = λ h. eqb-false (digit (reachedOf x) t) 1 e (reached-found x w t (d .walkedIn t (omega (arith, d .wrongIn t, digit-le walked t)))) in
+          sym (ap not (ne-eqb (digit wrong t) 1 n))
 
-  judged-as : has (reachedOf x) k ≡ true → initialised x (reachedOf x) (setsOf x) k ≡ fine (topOf x) (setAt x (setsOf x) k) (act x k)
-  unfolding initialised
-  judged-as e = rw (initialised, e)
+  visiting-last : Settled x wrong l
+  visiting-last = record {
+    largest = found-sets;
+    errs = found-errs;
+    inside = λ t h. reached-in x w t (d .walkedIn t (omega (arith, d .wrongIn t, digit-le walked t)));
+  }
 
-module _ {s : List ℕ} {i : Image} {uses defs : List ℕ} {seen top : ℕ} (g : Given s i uses defs seen top) where
-  inner : Sub (parametersOf (tablesOf s .variables)) (topOf (tablesOf s))
-  inner = parameters-in (tablesOf s) (g .rooted .formed .entries)
+pub settled-of : {s : List ℕ} {i : Image} {uses defs leads : List ℕ} {top : ℕ} → Given s i uses defs leads top → {l : List ℕ} {due walked wrong : ℕ}
+    → Visiting (tablesOf s) l due walked wrong → due ≡ 0 → Settled (tablesOf s) wrong l
+settled-of {s} g d z = visiting-last (leads-of (g .leading .rooted)) (parameters-in (tablesOf s) (g .leading .rooted .formed .entries)) d z
 
-  pub settled : {l : List ℕ} {moving : Bool} → Settling (tablesOf s) l moving → moving ≡ false → l ≡ setsOf (tablesOf s)
-  settled d e = settling-last (leads-of (g .rooted)) inner d e
+-- ---- 11
+module _ {x : Tables} {wrong : ℕ} {l : List ℕ} (d : Settled x wrong l) where
+  errs-not : (t : ℕ) → digit wrong t ≡ 0 → initialised x (reachedOf x) (setsOf x) t ≡ true
+  errs-not t e = d .errs t ∙ ap not (ne-eqb (digit wrong t) 1 (λ h. omega arith))
 
-  pub judging-first : {l : List ℕ} → l ≡ setsOf (tablesOf s) → Judging (tablesOf s) 0 l
-  unfolding lowest
-  judging-first e = record { largest = e; passed = refl }
+  pub judged-none : wrong ≡ 0 → Judged x Accepted l
+  judged-none z = record {
+    verdict = sym (each-accepts _ (length (x .states)) _ (λ t b. errs-not t (ap (λ n. digit n t) z ∙ digit-zero t)));
+    largest = d .largest;
+  }
 
-  module _ {k : ℕ} {l : List ℕ} (d : Judging (tablesOf s) k l) where
-    pub judging-above : Above (tablesOf s) l
-    judging-above = rw (d .largest) (largest-above (leads-of (g .rooted)) inner)
-
-    pub judging-skip : has seen k ≡ false → Judging (tablesOf s) (k + 1) l
-    judging-skip e = record {
-      largest = d .largest;
-      passed = lowest-pass _ k (d .passed) (judged-not (tablesOf s) k (ap (λ m. has m k) (sym (g .reached)) ∙ e));
-    }
-
-    module _ (row : ℕ) (b : k < length l) (e : row ≡ getD (tablesOf s .states) k none) (h : has seen k ≡ true) {now' : List ℕ} {r : Went}
-        (w : Walked (flow top (getD l k 0) (actionAt (tablesOf s) row)) l now' r) where
-      judged : initialised (tablesOf s) (reachedOf (tablesOf s)) (setsOf (tablesOf s)) k ≡ r .fine
-      judged =
-          let x = tablesOf s in
-          judged-as x k (ap (λ m. has m k) (sym (g .reached)) ∙ h)
-          ∙ sym (w .fine ∙ ap (λ n. fine n (getD l k 0) (actionAt x row)) (g .all)
-          ∙ ap₂ (λ m n. fine (topOf x) m (actionAt x n)) (sym (near x l k b) ∙ ap (λ t. setAt x t k) (d .largest)) e)
-
-      pub judging-still : now' ≡ setsOf (tablesOf s)
-      judging-still =
-          largest-still (leads-of (g .rooted)) inner (reached-has g k h)
-          (subst (λ t. Relaxed (tablesOf s) k t now') (d .largest) (relaxed g judging-above k row b e w))
-
-      pub judging-on : r .fine ≡ true → Judging (tablesOf s) (k + 1) now'
-      judging-on f = record { largest = judging-still; passed = lowest-pass _ k (d .passed) (judged ∙ f) }
-
-      pub judging-fails : r .fine ≡ false → Judged (tablesOf s) (Refused (Initialisation (state k))) now'
-      judging-fails f = record {
-        verdict = sym (each-refuses _ (length (tablesOf s .states)) _ k (d .passed) (omega (arith, judging-above .size)) (judged ∙ f));
-        largest = judging-still;
-      }
-
-    pub judging-last : k ≡ length l → Judged (tablesOf s) Accepted l
-    judging-last e = record {
-      verdict = sym (each-full _ (length (tablesOf s .states)) _ (rw (← judging-above .size, ← e) (d .passed)));
-      largest = d .largest;
-    }
+  pub judged-at : (k : ℕ) → Lowest wrong k → Judged x (Refused (Initialisation (state k))) l
+  judged-at k m = record {
+    verdict = sym (each-refuses _ (length (x .states)) _ k (lowest-full _ k (λ t b. errs-not t (m .below t b))) (d .inside k (m .here)) (d .errs k ∙ ap not (digit-has wrong k (m .here))));
+    largest = d .largest;
+  }
 
 -- ---- the whole
 pub top-is : {s : List ℕ} {i : Image} → Rooted s i → (n top : ℕ) → n ≡ variableCount i → top ≡ full n → top ≡ topOf (tablesOf s)
 top-is h n top e f = f ∙ ap full (e ∙ sym (variables-count (h .formed .located)))
 
 module _ {s : List ℕ} {i : Image} {uses defs leads l : List ℕ} (d : EachState s i uses defs leads l) where
-  pub given-of : (n seen top : ℕ) → seen ≡ reachedOf (tablesOf s) → n ≡ variableCount i → top ≡ full n → Given s i uses defs seen top
-  given-of n seen top e f g =
+  pub given-of : (n top : ℕ) → n ≡ variableCount i → top ≡ full n → Given s i uses defs leads top
+  given-of n top f g =
       let h = d .lending .filled in
       record {
-        rooted = d .lending .rooted;
+        leading = record { rooted = d .lending .rooted; led = record { leadRow = h .leadRow; leadsSize = h .leadsSize } };
         masks = record { useRow = h .useRow; defRow = h .defRow; usesSize = h .usesSize; defsSize = h .defsSize };
-        reached = e;
         all = top-is (d .lending .rooted) n top f g;
       }
 

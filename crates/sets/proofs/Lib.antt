@@ -1,12 +1,14 @@
 pub mod Forms
 pub mod Entries
 pub mod Leading
-pub mod Spreading
 pub mod Tests
 pub mod Rest
 pub mod Rows
 pub mod Plainly
 pub mod Steps
 pub mod Listing
-pub mod Rounds
+pub mod Zeros
+pub mod Relaxing
+pub mod Turning
+pub mod Visiting
 pub mod Finding

@@ -1,5 +1,5 @@
 -- A list of branches or of arms, followed in a loop. Assumes nothing.
-use mathlib.Core.{Path._≡_, Path.refl, Path.sym, Path.ap, Path._∙_, Path.subst, Logic._⊎_, Logic.inl, Logic.inr, Logic.⊎-elim, Bool.Bool, Bool.true, Bool.false, Bool._&&_, Bool._||_, List.List}
+use mathlib.Core.{Path._≡_, Path.refl, Path.sym, Path.ap, Path._∙_, Path.subst, Logic._⊎_, Logic.inl, Logic.inr, Logic.⊎-elim, Bool.Bool, Bool.true, Bool._&&_, List.List}
 use Prim.Native.Nat.{ℕ, _+_, _%_, _≤_, _<_}
 use native.Mathlib.Omega.{arith}
 use lib.{Bits.bitAnd, Bits.bitOr, ListN.length}
@@ -64,22 +64,22 @@ abbrev pub into : ℕ → Flow → Flow
 into e g = record { ends = meet e (g .ends); fine = g .fine; jumps = g .jumps }
 
 -- of the list from row r on, the list from row here on is left; F says what a list is to give
-pub record Listing (k : Kind) (F : ℕ → Flow) (s : List ℕ) (i : Image) (uses defs : List ℕ) (r top : ℕ) (was : List ℕ) (here e : ℕ) (mv ok : Bool) (l : List ℕ) : Type 0 where
+pub record Listing (k : Kind) (F : ℕ → Flow) (s : List ℕ) (i : Image) (uses defs : List ℕ) (r top : ℕ) (was : List ℕ) (here e mv : ℕ) (ok : Bool) (l : List ℕ) : Type 0 where
   pub ready : ReadyList k s i uses defs here top l
   pub rest : Rest (F r) (into e (F here)) was l mv ok
   pub inside : Sub e top
   pub low : (here + 1) % 65536 ≤ (r + 1) % 65536
 
 module _ {k : Kind} {s : List ℕ} {i : Image} {uses defs : List ℕ} {r top : ℕ} {l : List ℕ} (F : ℕ → Flow) where
-  listing-all : Sub (F r .ends) top → ReadyList k s i uses defs r top l → Listing k F s i uses defs r top l r top false true l
+  listing-all : Sub (F r .ends) top → ReadyList k s i uses defs r top l → Listing k F s i uses defs r top l r top 0 true l
   listing-all h d = record {
     ready = d;
-    rest = subst (λ n. Rest (F r) (record { ends = n; fine = F r .fine; jumps = F r .jumps }) l l false true) (sym (sub-meets top (F r .ends) h)) (rest-all (F r) l);
+    rest = subst (λ n. Rest (F r) (record { ends = n; fine = F r .fine; jumps = F r .jumps }) l l 0 true) (sym (sub-meets top (F r .ends) h)) (rest-all (F r) l);
     inside = sub-refl top;
     low = omega arith;
   }
 
-  module _ {was : List ℕ} {here e : ℕ} {mv ok : Bool} (d : Listing k F s i uses defs r top was here e mv ok l) where
+  module _ {was : List ℕ} {here e mv : ℕ} {ok : Bool} (d : Listing k F s i uses defs r top was here e mv ok l) where
     -- a row of the list
     pub here-kind : (here ≡ none → ⊥) → isKind (tablesOf s) k here ≡ true
     here-kind f = ⊎-elim (λ p. absurd (f p)) (λ p. p) (d .ready .first)
@@ -96,7 +96,7 @@ module _ {k : Kind} {s : List ℕ} {i : Image} {uses defs : List ℕ} {r top : �
     -- one row on
     listing-on : {h : Flow} {n : ℕ} {now' : List ℕ} {v : Went} → numberOfKind k < 10 → (here ≡ none → ⊥) → (n ≡ none) ⊎ Named (tablesOf s) here k n
         → Splits (into e (F here)) h (into (meet e (h .ends)) (F n)) → Walked h l now' v
-        → Listing k F s i uses defs r top was n (meet e (v .ends)) (mv || v .moved) (ok && v .fine) now'
+        → Listing k F s i uses defs r top was n (meet e (v .ends)) (bitOr mv (v .moved)) (ok && v .fine) now'
     listing-on {h} {n} {now'} {v} b f p q w = record {
       ready = record { lent = d .ready .lent; sets = sets-after (d .ready .sets) w; first = ⊎-elim (λ t. inl t) (λ t. inr (t .kind)) p };
       rest = rw (w .ends) (rest-on (d .rest) q w);
@@ -122,10 +122,10 @@ splits-branch top m e bs rest a z =
     (record { ends = meet-assoc e (ends top m a) (endsBranches top m rest); fine = refl; jumps = λ q. refl })
 
 pub branches-all : {s : List ℕ} {i : Image} {uses defs : List ℕ} {r top : ℕ} {l : List ℕ} (m : ℕ) → ReadyList branch s i uses defs r top l
-    → Listing branch (branching s top m) s i uses defs r top l r top false true l
+    → Listing branch (branching s top m) s i uses defs r top l r top 0 true l
 branches-all {s} {r = r} {top = top} m d = listing-all (branching s top m) (branches-in top m (branchesAt (tablesOf s) r)) d
 
-module _ {s : List ℕ} {i : Image} {uses defs : List ℕ} {r top : ℕ} (m : ℕ) {was : List ℕ} {here e : ℕ} {mv ok : Bool} {l : List ℕ}
+module _ {s : List ℕ} {i : Image} {uses defs : List ℕ} {r top : ℕ} (m : ℕ) {was : List ℕ} {here e mv : ℕ} {ok : Bool} {l : List ℕ}
     (d : Listing branch (branching s top m) s i uses defs r top was here e mv ok l) where
   module _ {w : Fields} (reads : w ≡ fieldsOf (tablesOf s) here) (f : here ≡ none → ⊥) where
     branch-kind : isKind (tablesOf s) branch here ≡ true
@@ -144,7 +144,7 @@ module _ {s : List ℕ} {i : Image} {uses defs : List ℕ} {r top : ℕ} (m : �
     branch-less = next-less (branching s top m) d (omega arith) f (branch-row .b)
 
     pub branches-on : {now' : List ℕ} {v : Went} → Walked (flow top m (actionAt (tablesOf s) (w .a))) l now' v
-        → Listing branch (branching s top m) s i uses defs r top was (w .b) (bitAnd e (v .ends)) (mv || v .moved) (ok && v .fine) now'
+        → Listing branch (branching s top m) s i uses defs r top was (w .b) (bitAnd e (v .ends)) (bitOr mv (v .moved)) (ok && v .fine) now'
     unfolding meet
     branches-on p =
         let x = tablesOf s in
@@ -171,10 +171,10 @@ splits-arm top m e arms rest p a z =
     (record { ends = meet-assoc e (ends top k a) (endsArms top m rest); fine = refl; jumps = λ q. refl })
 
 pub arms-all : {s : List ℕ} {i : Image} {uses defs : List ℕ} {r top : ℕ} {l : List ℕ} (m : ℕ) → ReadyList arm s i uses defs r top l
-    → Listing arm (arming s top m) s i uses defs r top l r top false true l
+    → Listing arm (arming s top m) s i uses defs r top l r top 0 true l
 arms-all {s} {r = r} {top = top} m d = listing-all (arming s top m) (arms-in top m (armsAt (tablesOf s) r)) d
 
-module _ {s : List ℕ} {i : Image} {uses defs : List ℕ} {r top : ℕ} (m : ℕ) {was : List ℕ} {here e : ℕ} {mv ok : Bool} {l : List ℕ}
+module _ {s : List ℕ} {i : Image} {uses defs : List ℕ} {r top : ℕ} (m : ℕ) {was : List ℕ} {here e mv : ℕ} {ok : Bool} {l : List ℕ}
     (d : Listing arm (arming s top m) s i uses defs r top was here e mv ok l) where
   module _ {w : Fields} (reads : w ≡ fieldsOf (tablesOf s) here) (f : here ≡ none → ⊥) where
     arm-kind : isKind (tablesOf s) arm here ≡ true
@@ -196,7 +196,7 @@ module _ {s : List ℕ} {i : Image} {uses defs : List ℕ} {r top : ℕ} (m : �
     arm-less = next-less (arming s top m) d (omega arith) f (arm-row .c)
 
     pub arms-on : (t : ℕ) {now' : List ℕ} {v : Went} → t ≡ maskAt defs (w .a) → Walked (flow top (bitOr m t) (actionAt (tablesOf s) (w .b))) l now' v
-        → Listing arm (arming s top m) s i uses defs r top was (w .c) (bitAnd e (v .ends)) (mv || v .moved) (ok && v .fine) now'
+        → Listing arm (arming s top m) s i uses defs r top was (w .c) (bitAnd e (v .ends)) (bitOr mv (v .moved)) (ok && v .fine) now'
     unfolding meet join
     arms-on t {now'} {v} z p =
         let x = tablesOf s in

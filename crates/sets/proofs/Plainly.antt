@@ -1,5 +1,5 @@
 -- An action without parts that doesn't jump: its masks give Figure 7's sets, one law a code. Assumes nothing.
-use mathlib.Core.{Path._≡_, Path.refl, Path.sym, Path.ap, Path.ap₂, Path._∙_, Logic._⊎_, Bool.Bool, Bool.true, Bool.false, List.List}
+use mathlib.Core.{Path._≡_, Path.refl, Path.sym, Path.ap, Path.ap₂, Path._∙_, Logic._⊎_, Bool.Bool, Bool.true, List.List}
 use Prim.Native.Nat.{ℕ, _-_, _^_, _<_}
 use native.Mathlib.Omega.{arith}
 use lib.{Bits.bitAnd, Bits.bitOr, ListN.length}
@@ -19,7 +19,7 @@ use Rattle.sets.proofs.Tests.{inside-all}
 use Rattle.sets.proofs.Rows.{named-list, Base, action-row, action-is, null-is, use-condition, use-gets, def-gets, def-ofTypes, def-items, use-offers, def-offers, in-uses, in-defs, some-uses, some-defs}
 
 plain-as : {x : Tables} {r m : ℕ} (a : Act) (v : Went) → actionAt x r ≡ at r a → ((top : ℕ) → v .ends ≡ endsAct top m a)
-    → ((top : ℕ) → v .fine ≡ fineAct top m a) → ((top q : ℕ) → jumpsAct q top m a ≡ top) → v .moved ≡ false → Plain x r m v
+    → ((top : ℕ) → v .fine ≡ fineAct top m a) → ((top q : ℕ) → jumpsAct q top m a ≡ top) → v .moved ≡ 0 → Plain x r m v
 unfolding ends fine jumps
 plain-as {x} {r} {m} a v e f g h k = record {
   ends = λ top. f top ∙ sym (ap (ends top m) e);

@@ -1,30 +1,32 @@
 -- Walks put together: what is done and what is left of a walk make the whole. Assumes nothing.
-use mathlib.Core.{Path._≡_, Path.refl, Path.sym, Path.ap, Path._∙_, Path.subst, Bool.Bool, Bool.true, Bool.false, Bool.not, Bool._&&_, Bool._||_, List.List, List.[], List._∷_}
-use Prim.Native.Nat.{ℕ, zero, suc, _+_, _≤_, _<_}
+use mathlib.Core.{Path._≡_, Path.refl, Path.sym, Path.ap, Path._∙_, Path.subst, Bool.Bool, Bool.true, Bool._&&_, List.List, List.[], List._∷_}
+use Prim.Native.Nat.{ℕ, zero, suc, _+_, _≤_, _<_, min}
 use native.Mathlib.{Omega.arith}
-use lib.{Dec.eqb, ListN.length, ListN.getD, ListN.set, Seq.set-getD}
-use borrow.Author.Tests.{eqb-true, eqb-false}
-use Rattle.model.specs.Masks.{meet}
+use lib.{Bits.bitOr, Bits.or-add-and, ListN.length, ListN.getD, ListN.set, Seq.getD-set-other}
+use Rattle.model.specs.Masks.{digit, bit, meet, join}
 use Rattle.model.specs.Largest.{Sub, sum}
-use Rattle.model.proofs.Masks.{meet-le, meet-left, sub-trans}
+use Rattle.model.proofs.Masks.{digit-join, digit-bit-here, meet-le, meet-left, sub-trans}
 use Rattle.sets.specs.declared.Went.{Went}
 use Rattle.sets.specs.Flow.{Flow, Moved, Walked, Sets}
 use Rattle.sets.proofs.Tests.{meet-assoc, meet-sub, and-assoc, and-true}
 
 -- ---- changes
-pub not-moved : (l : List ℕ) → Moved l l false
-not-moved l = record { still = λ e. refl; falls = λ e. absurd (let z : _≡_ {A = ℕ} 0 1 = cc in omega arith) }
+pub not-moved : (l : List ℕ) → Moved l l 0
+not-moved l = record { still = λ q e. refl; falls = omega arith }
 
-moved-le : {a b : List ℕ} (p : Bool) → Moved a b p → sum b ≤ sum a
-moved-le true x = omega (arith, x .falls refl)
-moved-le false x = omega (arith, ap sum (x .still refl))
+some-join : (p q : ℕ) → min (join p q) 1 ≤ min p 1 + min q 1
+unfolding join
+some-join p q = omega (arith, or-add-and p q)
 
-pub moved-then : {a b c : List ℕ} (p q : Bool) → Moved a b p → Moved b c q → Moved a c (p || q)
-moved-then true q x y = record {
-  still = λ e. absurd (let z : _≡_ {A = ℕ} 0 1 = cc in omega arith);
-  falls = λ e. omega (arith, x .falls refl, moved-le q y);
+moved-join : {a b c : List ℕ} (p q : ℕ) → Moved a b p → Moved b c q → Moved a c (join p q)
+moved-join p q x y = record {
+  still = λ v e. y .still v (omega (arith, digit-join p q v)) ∙ x .still v (omega (arith, digit-join p q v));
+  falls = omega (arith, some-join p q, x .falls, y .falls);
 }
-moved-then false q x y = record { still = λ e. y .still e ∙ x .still refl; falls = λ e. omega (arith, y .falls e, ap sum (x .still refl)) }
+
+pub moved-then : {a b c : List ℕ} (p q : ℕ) → Moved a b p → Moved b c q → Moved a c (bitOr p q)
+unfolding join
+moved-then p q x y = moved-join p q x y
 
 sum-set : (l : List ℕ) (i n : ℕ) → i < length l → sum (set l i n) + getD l i 0 ≡ sum l + n
 unfolding sum
@@ -32,19 +34,12 @@ sum-set [] i n h = absurd (omega arith)
 sum-set (m ∷ l) zero n h = omega arith
 sum-set (m ∷ l) (suc i) n h = omega (arith, sum-set l i n (omega arith))
 
--- a set met in place: whether it changed
-pub moved-set : (l : List ℕ) (t n m : ℕ) → t < length l → n ≡ meet (getD l t 0) m → Moved l (set l t n) (not (eqb n (getD l t 0)))
-moved-set l t n m h e = go (eqb n (getD l t 0)) refl
-  where
-    go : (b : Bool) → eqb n (getD l t 0) ≡ b → Moved l (set l t n) (not b)
-    go true g = record {
-      still = λ y. ap (set l t) (eqb-true n (getD l t 0) g) ∙ set-getD l t 0;
-      falls = λ y. absurd (let z : _≡_ {A = ℕ} 0 1 = cc in omega arith);
-    }
-    go false g = record {
-      still = λ y. absurd (let z : _≡_ {A = ℕ} 0 1 = cc in omega arith);
-      falls = λ y. omega (arith, sum-set l t n h, e, meet-le (getD l t 0) m, eqb-false n (getD l t 0) g);
-    }
+-- a set met in place, and changed
+pub moved-set : (l : List ℕ) (t n m : ℕ) → t < length l → n ≡ meet (getD l t 0) m → (n ≡ getD l t 0 → ⊥) → Moved l (set l t n) (bit t)
+moved-set l t n m h e f = record {
+  still = λ q z. getD-set-other l t q n 0 (λ p. omega (arith, digit-bit-here t, ap (digit (bit t)) p));
+  falls = omega (arith, sum-set l t n h, e, meet-le (getD l t 0) m);
+}
 
 -- ---- the sets stay inside the top
 pub sets-after : {s : List ℕ} {top : ℕ} {f : Flow} {was now' : List ℕ} {r : Went} → Sets s top was → Walked f was now' r → Sets s top now'
@@ -57,7 +52,7 @@ sets-after {s} {top} {f} {was} {now'} d w = record {
 
 -- ---- what is left
 -- of the walk that f says, begun at was, g is left at now'
-pub record Rest (f g : Flow) (was now' : List ℕ) (moved ok : Bool) : Type 0 where
+pub record Rest (f g : Flow) (was now' : List ℕ) (moved : ℕ) (ok : Bool) : Type 0 where
   pub ends : g .ends ≡ f .ends
   pub fine : (ok && g .fine) ≡ f .fine
   pub size : length now' ≡ length was
@@ -70,14 +65,14 @@ pub record Splits (g h k : Flow) : Type 0 where
   pub fine : (h .fine && k .fine) ≡ g .fine
   pub jumps : (q : ℕ) → meet (h .jumps q) (k .jumps q) ≡ g .jumps q
 
-abbrev pub went : ℕ → Bool → Bool → Went
+abbrev pub went : ℕ → ℕ → Bool → Went
 went e m f = record { ends = e; moved = m; fine = f }
 
-pub rest-all : (f : Flow) (l : List ℕ) → Rest f f l l false true
+pub rest-all : (f : Flow) (l : List ℕ) → Rest f f l l 0 true
 rest-all f l = record { ends = refl; fine = refl; size = refl; met = λ q h. refl; change = not-moved l }
 
-module _ {f g : Flow} {was mid : List ℕ} {mv ok : Bool} (p : Rest f g was mid mv ok) where
-  pub rest-on : {h k : Flow} {now' : List ℕ} {r : Went} → Splits g h k → Walked h mid now' r → Rest f k was now' (mv || r .moved) (ok && r .fine)
+module _ {f g : Flow} {was mid : List ℕ} {mv : ℕ} {ok : Bool} (p : Rest f g was mid mv ok) where
+  pub rest-on : {h k : Flow} {now' : List ℕ} {r : Went} → Splits g h k → Walked h mid now' r → Rest f k was now' (bitOr mv (r .moved)) (ok && r .fine)
   rest-on {h} {k} {now'} {r} s w = record {
     ends = s .ends ∙ p .ends;
     fine = and-assoc ok (r .fine) (k .fine) ∙ ap (λ t. ok && t) (ap (λ t. t && k .fine) (w .fine) ∙ s .fine) ∙ p .fine;
@@ -88,7 +83,7 @@ module _ {f g : Flow} {was mid : List ℕ} {mv ok : Bool} (p : Rest f g was mid 
     change = moved-then mv (r .moved) (p .change) (w .change);
   }
 
-  pub rest-last : {now' : List ℕ} {r : Went} → Walked g mid now' r → Walked f was now' (went (r .ends) (mv || r .moved) (ok && r .fine))
+  pub rest-last : {now' : List ℕ} {r : Went} → Walked g mid now' r → Walked f was now' (went (r .ends) (bitOr mv (r .moved)) (ok && r .fine))
   rest-last {now'} {r} w = record {
     ends = w .ends ∙ p .ends;
     fine = ap (λ t. ok && t) (w .fine) ∙ p .fine;

@@ -1,8 +1,8 @@
 -- The walk by the code of a row: one law for each way of the walk's functions. Assumes nothing.
-use mathlib.Core.{Path._≡_, Path.refl, Path.sym, Path.ap, Path.ap₂, Path._∙_, Path.subst, Logic._⊎_, Logic.inl, Logic.inr, Logic.⊎-elim, Bool.Bool, Bool.true, Bool.false, Bool.not, Bool._&&_, Bool._||_, List.List}
-use Prim.Native.Nat.{ℕ, _+_, _%_, _≤_, _<_}
+use mathlib.Core.{Path._≡_, Path.refl, Path.sym, Path.ap, Path.ap₂, Path._∙_, Path.subst, Logic._⊎_, Logic.inl, Logic.inr, Logic.⊎-elim, Bool.Bool, Bool.true, Bool.false, Bool._&&_, List.List}
+use Prim.Native.Nat.{ℕ, _+_, _*_, _%_, _^_, _≤_, _<_}
 use native.Mathlib.{Omega.arith, Decide.ℕ-discrete}
-use lib.{Bits.bitOr, Dec.eqb, IntN.ℤ, ListN.length, ListN.getD, ListN.set, ListN.length-set, Seq.getD-set-same, Seq.getD-set-other}
+use lib.{Bits.bitOr, Dec.eqb, IntN.ℤ, ListN.length, ListN.getD, ListN.set, ListN.length-set, Seq.set-getD, Seq.getD-set-same, Seq.getD-set-other}
 use borrow.Author.Tests.{ltb-true, eq-eqb, ne-eqb}
 use Rattle.model.specs.declared.{Image.Image, Fields.Fields, Variable.Variable}
 use Rattle.model.specs.Answers.{state, variable}
@@ -16,9 +16,11 @@ use Rattle.model.specs.Decode.{growAction, expressionAt, actionAt, forOf}
 use Rattle.model.specs.Binding.{useOfExp}
 use Rattle.model.specs.Sets.{loopSet, ends, endsAct, fine, fineAct, jumps, jumpsAct, useOfArms}
 use Rattle.model.proofs.Rows.{Named}
+use Rattle.model.proofs.Masks.{bit-shift}
+use Rattle.image.proofs.Laid.{laid, states-count}
 use Rattle.masks.specs.Masks.{branchesAt, armsAt}
 use Rattle.sets.specs.declared.Went.{Went}
-use Rattle.sets.specs.Flow.{Flow, flow, flowBranches, flowArms, Walked, Plain, maskAt, Sets, Ready, ReadyAs, Single, Loop, ReadyList, Jump, PlainRow}
+use Rattle.sets.specs.Flow.{Flow, flow, flowBranches, flowArms, Walked, Plain, maskAt, stayed, Sets, Ready, ReadyAs, Single, Loop, ReadyList, Jump, PlainRow}
 use Rattle.sets.proofs.Tests.{meet-sub, join-none, and-assoc, inside-none}
 use Rattle.sets.proofs.Rest.{went, not-moved, moved-set, sets-after, Rest, Splits, rest-all, rest-on, rest-last}
 use Rattle.sets.proofs.Rows.{named-list, Base, base-of, action-row, action-is, low-is, use-expression, def-expression, use-range, def-range, use-arms, in-uses, in-defs, some-uses, kind-inside, list-low}
@@ -55,14 +57,24 @@ module _ (top m q : ℕ) where
     met-to t k (no f) =
         rw (getD-set-other l q t n 0 f, jumps-to t false (ne-eqb q t (λ p. f (sym p)))) (sym (meet-sub (getD l t 0) top (d .inside t k)))
 
-    walked-to : Walked (flowAct top m (to (state q))) l (set l q n) (went top (not (eqb n (getD l q 0))) true)
+    walked-still : n ≡ getD l q 0 → Walked (flowAct top m (to (state q))) l l (stayed top true)
     unfolding endsAct fineAct
-    walked-to = record {
+    walked-still g = record {
+      ends = refl;
+      fine = refl;
+      size = refl;
+      met = λ t k. ap (λ o. getD o t 0) (sym (ap (set l q) g ∙ set-getD l q 0)) ∙ met-to t k (ℕ-discrete t q);
+      change = not-moved l;
+    }
+
+    walked-to : (n ≡ getD l q 0 → ⊥) → Walked (flowAct top m (to (state q))) l (set l q n) (went top (bit q) true)
+    unfolding endsAct fineAct
+    walked-to f = record {
       ends = refl;
       fine = refl;
       size = length-set l q n;
       met = λ t k. met-to t k (ℕ-discrete t q);
-      change = moved-set l q n m h e;
+      change = moved-set l q n m h e f;
     }
 
 module _ {s : List ℕ} {i : Image} {r top : ℕ} {l : List ℕ} (j : Jump s i r top l) {w : Fields} (reads : w ≡ fieldsOf (tablesOf s) r) where
@@ -72,22 +84,29 @@ module _ {s : List ℕ} {i : Image} {r top : ℕ} {l : List ℕ} (j : Jump s i r
   pub jump-inside : w .a < length l
   jump-inside = omega (arith, j .sets .size, ltb-true (w .a) (length (tablesOf s .states)) (action-row (tablesOf s) (record { each = j .formed .rows }) r w reads isTo to-code .a))
 
-  pub do-jump : (m n : ℕ) → n ≡ meet (getD l (w .a) 0) m
-      → Walked (flow top m (actionAt (tablesOf s) r)) l (set l (w .a) n) (went top (not (eqb n (getD l (w .a) 0))) true)
-  unfolding growAction
-  do-jump m n e =
-      walked-as (tablesOf s) r top m (to (state (w .a))) (action-is (tablesOf s) (record { each = j .formed .rows }) r w reads isTo to-code)
-      (walked-to top m (w .a) jump-inside (j .sets) e)
+  pub jump-small : w .a < 64
+  jump-small = let d = j .formed .located in omega (arith, jump-inside, j .sets .size, states-count d, laid d .statesMost)
+
+  module _ (m n : ℕ) (e : n ≡ meet (getD l (w .a) 0) m) where
+    jump-as : {now' : List ℕ} {v : Went} → Walked (flowAct top m (to (state (w .a)))) l now' v → Walked (flow top m (actionAt (tablesOf s) r)) l now' v
+    unfolding growAction
+    jump-as = walked-as (tablesOf s) r top m (to (state (w .a))) (action-is (tablesOf s) (record { each = j .formed .rows }) r w reads isTo to-code)
+
+    pub still-jump : {v : Went} → v ≡ stayed top true → n ≡ getD l (w .a) 0 → Walked (flow top m (actionAt (tablesOf s) r)) l l v
+    still-jump z g = rw z (jump-as (walked-still top m (w .a) jump-inside (j .sets) e g))
+
+    pub do-jump : (n ≡ getD l (w .a) 0 → ⊥) → Walked (flow top m (actionAt (tablesOf s) r)) l (set l (w .a) n) (went top (1 * 2 ^ w .a % 2 ^ 64) true)
+    do-jump f = rw (bit-shift (w .a) jump-small) (jump-as (walked-to top m (w .a) jump-inside (j .sets) e f))
 
 -- ---- a sequence, followed in a loop
 -- of the walk of row r, entered with m, row here is left, to be entered with n
-pub record Walking (s : List ℕ) (i : Image) (uses defs : List ℕ) (r m top : ℕ) (was : List ℕ) (here n : ℕ) (mv ok : Bool) (l : List ℕ) : Type 0 where
+pub record Walking (s : List ℕ) (i : Image) (uses defs : List ℕ) (r m top : ℕ) (was : List ℕ) (here n mv : ℕ) (ok : Bool) (l : List ℕ) : Type 0 where
   pub ready : Ready s i uses defs here top l
   pub rest : Rest (flow top m (actionAt (tablesOf s) r)) (flow top n (actionAt (tablesOf s) here)) was l mv ok
   pub low : here ≤ r
 
 pub walking-all : {s : List ℕ} {i : Image} {uses defs : List ℕ} {r top : ℕ} {l : List ℕ} (m : ℕ) → Ready s i uses defs r top l
-    → Walking s i uses defs r m top l r m false true l
+    → Walking s i uses defs r m top l r m 0 true l
 walking-all m d = record { ready = d; rest = rest-all _ _; low = omega arith }
 
 splits-then : (x : Tables) (r top m : ℕ) (a b : Action) → actionAt x r ≡ at r (then a b)
@@ -97,7 +116,7 @@ splits-then x r top m a b e =
     subst (λ (t : Action). Splits (flow top m t) (flow top m a) (flow top (ends top m a) b)) (sym e)
     (record { ends = refl; fine = refl; jumps = λ q. refl })
 
-module _ {s : List ℕ} {i : Image} {uses defs : List ℕ} {r m top : ℕ} {was : List ℕ} {here n : ℕ} {mv ok : Bool} {mid : List ℕ}
+module _ {s : List ℕ} {i : Image} {uses defs : List ℕ} {r m top : ℕ} {was : List ℕ} {here n mv : ℕ} {ok : Bool} {mid : List ℕ}
     (d : Walking s i uses defs r m top was here n mv ok mid) where
   module _ {w : Fields} (reads : w ≡ fieldsOf (tablesOf s) here) (c : fieldsOf (tablesOf s) here .code ≡ 54) where
     then-code : w .code ≡ 54
@@ -119,7 +138,7 @@ module _ {s : List ℕ} {i : Image} {uses defs : List ℕ} {r m top : ℕ} {was 
     second-low = then-b .below
 
     pub walking-on : {now' : List ℕ} {v : Went} → Walked (flow top n (actionAt (tablesOf s) (w .a))) mid now' v
-        → Walking s i uses defs r m top was (w .b) (v .ends) (mv || v .moved) (ok && v .fine) now'
+        → Walking s i uses defs r m top was (w .b) (v .ends) (bitOr mv (v .moved)) (ok && v .fine) now'
     unfolding growAction
     walking-on {now'} {v} p = record {
       ready = record { lent = d .ready .lent; sets = sets-after (d .ready .sets) p; kind = then-b .kind };
@@ -132,7 +151,7 @@ module _ {s : List ℕ} {i : Image} {uses defs : List ℕ} {r m top : ℕ} {was 
     }
 
   pub walking-last : {now' : List ℕ} {v : Went} → Walked (flow top n (actionAt (tablesOf s) here)) mid now' v
-      → Walked (flow top m (actionAt (tablesOf s) r)) was now' (went (v .ends) (mv || v .moved) (ok && v .fine))
+      → Walked (flow top m (actionAt (tablesOf s) r)) was now' (went (v .ends) (bitOr mv (v .moved)) (ok && v .fine))
   walking-last p = rest-last (d .rest) p
 
 -- ---- a select, a case, a loop

@@ -1,10 +1,10 @@
 -- A walk of rows: what it is asked, and what it gives, the sets of Figure 7 with what is carried to each state met in place.
 -- Assumes nothing.
 use mathlib.Core.{Path._≡_, Logic._⊎_, Bool.Bool, Bool.true, Bool.false, List.List}
-use Prim.Native.Nat.{ℕ, _≤_, _<_}
+use Prim.Native.Nat.{ℕ, _+_, _≤_, _<_, min}
 use lib.{Dec.eqb, ListN.length, ListN.getD}
 use Rattle.model.specs.declared.Image.{Image}
-use Rattle.model.specs.Masks.{meet}
+use Rattle.model.specs.Masks.{digit, meet}
 use Rattle.model.specs.Image.{Tables, none, fieldsOf, tablesOf, rowCount}
 use Rattle.model.specs.Rows.{Kind, action, isKind}
 use Rattle.model.specs.Trees.{Action, Branches, Arms}
@@ -30,10 +30,10 @@ flowBranches top m bs = record { ends = endsBranches top m bs; fine = fineBranch
 abbrev pub flowArms : ℕ → ℕ → Arms → Flow
 flowArms top m arms = record { ends = endsArms top m arms; fine = fineArms top m arms; jumps = λ q. jumpsArms q top m arms }
 
--- whether the sets changed; where they did, their sum fell
-pub record Moved (was now' : List ℕ) (moved : Bool) : Type 0 where
-  pub still : moved ≡ false → now' ≡ was
-  pub falls : moved ≡ true → sum now' < sum was
+-- the states whose sets changed; where one did, the sum of the sets fell
+pub record Moved (was now' : List ℕ) (moved : ℕ) : Type 0 where
+  pub still : (q : ℕ) → digit moved q ≡ 0 → getD now' q 0 ≡ getD was q 0
+  pub falls : sum now' + min moved 1 ≤ sum was
 
 -- what a walk gives: at each state the set that was there is met with what the jumps carry
 pub record Walked (f : Flow) (was now' : List ℕ) (r : Went) : Type 0 where
@@ -45,14 +45,14 @@ pub record Walked (f : Flow) (was now' : List ℕ) (r : Went) : Type 0 where
 
 -- nothing is carried to a state
 abbrev pub stayed : ℕ → Bool → Went
-stayed e f = record { ends = e; moved = false; fine = f }
+stayed e f = record { ends = e; moved = 0; fine = f }
 
 -- the same of an action without parts that doesn't jump: nothing is carried anywhere
 pub record Plain (x : Tables) (row m : ℕ) (r : Went) : Type 0 where
   pub ends : (top : ℕ) → r .ends ≡ ends top m (actionAt x row)
   pub fine : (top : ℕ) → r .fine ≡ fine top m (actionAt x row)
   pub jumps : (top q : ℕ) → jumps q top m (actionAt x row) ≡ top
-  pub moved : r .moved ≡ false
+  pub moved : r .moved ≡ 0
 
 -- the masks of rows below n that a walk reads
 pub record Masked (x : Tables) (n : ℕ) (uses defs : List ℕ) : Type 0 where

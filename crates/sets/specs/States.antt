@@ -1,18 +1,16 @@
 -- The states: those reached, their sets, the verdict on them. Assumes nothing.
-use mathlib.Core.{Path._≡_, Bool.Bool, List.List, List._++_}
+use mathlib.Core.{Path._≡_, Bool.Bool, Bool.not, List.List, List._++_}
 use Prim.Native.Nat.{ℕ, _≤_, _<_}
 use lib.ListN.{length, getD, drop}
 use Rattle.model.specs.declared.{Image.Image, Verdict.Verdict, Refusal.the-variants.Initialisation}
 use Rattle.model.specs.Answers.{state, each}
 use Rattle.model.specs.Image.{Tables, tablesOf, rowCount}
-use Rattle.model.specs.Masks.{Has}
+use Rattle.model.specs.Masks.{digit, Has, has}
 use Rattle.model.specs.Binding.{parametersOf}
-use Rattle.model.specs.Decode.{act}
-use Rattle.model.specs.Sets.{jumps, targets}
-use Rattle.model.specs.Largest.{topOf, Sub, Reached, Fits, reachedOf, setsOf, initialised}
+use Rattle.model.specs.Largest.{topOf, Sub, Fits, reachedOf, setsOf, initialised}
 use Rattle.image.specs.Located.{Formed, Rooted}
 use Rattle.masks.specs.Masks.{leadAt, Filled}
-use Rattle.sets.specs.Flow.{Moved, Masked}
+use Rattle.sets.specs.Flow.{Masked}
 
 -- the states that rows lead to, of the rows below n
 pub record Led (x : Tables) (n : ℕ) (leads : List ℕ) : Type 0 where
@@ -22,12 +20,6 @@ pub record Led (x : Tables) (n : ℕ) (leads : List ℕ) : Type 0 where
 pub record Leading (s : List ℕ) (i : Image) (leads : List ℕ) : Type 0 where
   pub rooted : Rooted s i
   pub led : Led (tablesOf s) (rowCount i) leads
-
--- seen, and what jumps of its states below k lead to; nothing that isn't reached is added
-pub record Spread (x : Tables) (k was seen : ℕ) : Type 0 where
-  pub grows : Sub was seen
-  pub led : (s : ℕ) → s < k → Has was s → Sub (targets (act x s)) seen
-  pub sound : ((s : ℕ) → Has was s → Reached x s) → (s : ℕ) → Has seen s → Reached x s
 
 -- ---- the sets
 -- a state's set; past the last state all variables, as the definitions read it
@@ -47,28 +39,32 @@ pub record Above (x : Tables) (sets : List ℕ) : Type 0 where
   pub begins : Sub (setAt x sets 0) (parametersOf (x .variables))
   pub above : (o : ℕ → ℕ) → Fits x o → (s : ℕ) → Sub (o s) (setAt x sets s)
 
--- what every round is lent: an image free of 1 to 6, its masks, the states reached, the mask of all variables
-pub record Given (s : List ℕ) (i : Image) (uses defs : List ℕ) (seen top : ℕ) : Type 0 where
-  pub rooted : Rooted s i
+-- what is lent to find the sets: an image free of 1 to 6, its masks, the mask of all variables
+pub record Given (s : List ℕ) (i : Image) (uses defs leads : List ℕ) (top : ℕ) : Type 0 where
+  pub leading : Leading s i leads
   pub masks : Masked (tablesOf s) (rowCount i) uses defs
-  pub reached : seen ≡ reachedOf (tablesOf s)
   pub all : top ≡ topOf (tablesOf s)
 
-pub record Staged (s : List ℕ) (i : Image) (uses defs : List ℕ) (seen top : ℕ) (sets : List ℕ) : Type 0 where
-  pub given : Given s i uses defs seen top
+pub record Staged (s : List ℕ) (i : Image) (uses defs leads : List ℕ) (top : ℕ) (sets : List ℕ) : Type 0 where
+  pub given : Given s i uses defs leads top
   pub stage : Above (tablesOf s) sets
 
--- the reached states below k are walked, in place: each jump of theirs carries no less than what is left
-pub record Rounded (x : Tables) (k : ℕ) (was now' : List ℕ) (moved : Bool) : Type 0 where
-  pub stage : Above x now'
-  pub below : (q : ℕ) → Sub (setAt x now' q) (setAt x was q)
-  pub along : (t q : ℕ) → t < k → Reached x t → q < length (x .states) → Sub (setAt x now' q) (jumps q (topOf x) (setAt x was t) (act x t))
-  pub change : Moved was now' moved
+-- the lowest in a mask
+pub record Lowest (m k : ℕ) : Type 0 where
+  pub here : Has m k
+  pub below : (j : ℕ) → j < k → digit m j ≡ 0
+  pub small : k < 64
 
--- the largest sets
-pub record Settled (s : List ℕ) (i : Image) (uses defs : List ℕ) (seen top : ℕ) (sets : List ℕ) : Type 0 where
-  pub given : Given s i uses defs seen top
-  pub largest : sets ≡ setsOf (tablesOf s)
+-- the mask of the states that err: s as the test says, the others as before
+pub record Marked (s : ℕ) (fine : Bool) (was wrong : ℕ) : Type 0 where
+  pub here : has wrong s ≡ not fine
+  pub there : (q : ℕ) → (q ≡ s → ⊥) → digit wrong q ≡ digit was q
+
+-- the largest sets, and the mask of the states that err with them
+pub record Settled (x : Tables) (wrong : ℕ) (sets : List ℕ) : Type 0 where
+  pub largest : sets ≡ setsOf x
+  pub errs : (s : ℕ) → initialised x (reachedOf x) (setsOf x) s ≡ not (has wrong s)
+  pub inside : (s : ℕ) → Has wrong s → s < length (x .states)
 
 -- ---- 11
 abbrev pub initialisation : Tables → Verdict

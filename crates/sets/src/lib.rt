@@ -3,16 +3,16 @@ ghost use mathlib.Core.Path.{_≡_};
 ghost use mathlib.Core.Logic.{_⊎_};
 ghost use Prim.Native.Nat.{_≤_, _<_};
 ghost use lib.ListN.{length};
-ghost use Rattle.model.specs.Masks.{has, full, inside};
+ghost use Rattle.model.specs.Masks.{full, inside};
 ghost use Rattle.model.specs.Image.{none, tablesOf, stateCount, variableCount};
 ghost use Rattle.model.specs.Rows.{branch, arm};
 ghost use Rattle.model.specs.Decode.{actionAt};
 ghost use Rattle.model.specs.Binding.{parametersOf};
-ghost use Rattle.model.specs.Largest.{reachedOf, begun, setsOf};
+ghost use Rattle.model.specs.Largest.{begun};
 ghost use Rattle.image.specs.Located.{Formed};
 ghost use Rattle.masks.specs.Masks.{branchesAt, armsAt};
 ghost use Rattle.sets.specs.Flow.{maskAt, stayed, flow, flowBranches, flowArms, Walked, Plain, Ready, ReadyAs, Single, Loop, ReadyList, Jump, PlainRow};
-ghost use Rattle.sets.specs.States.{Leading, Spread, Beginning, Staged, Rounded, Settled, Judged, EachState, Room, Found};
+ghost use Rattle.sets.specs.States.{Lowest, Marked, Beginning, Staged, Settled, Judged, EachState, Room, Found};
 use image::code;
 use image::fields;
 use image::parameter;
@@ -22,19 +22,19 @@ use model::Refusal;
 use model::State;
 use model::Verdict;
 
-// What a walk gives: the set that holds where the action ends, whether a state's set changed, whether no error is raised.
+// What a walk gives: the set that holds where the action ends, the states whose sets changed, whether no error is raised.
 pub struct Went {
     pub ends: u64,
-    pub moved: bool,
+    pub moved: u64,
     pub fine: bool,
 }
 
-// Is v in the mask?
-fn has(m: u64, v: u16) -> bool
-    requires { ⌜ v < 64 ⌝ }
-    ensures { λ r. ⌜ r ≡ has m v ⌝ }
+// The lowest in the mask.
+fn lowest(m: u64) -> u16
+    requires { ⌜ 0 < m ⌝ }
+    ensures { λ r. ⌜ Lowest m r ⌝ }
 {
-    (m >> v) & 1 == 1
+    u64::trailing_zeros(m) as u16
 }
 
 // Is each of a in b?
@@ -94,46 +94,13 @@ fn parameters(image: &[u8], i: Image) -> u64
     m
 }
 
-// The states seen, and those that jumps lead to from them.
-fn spread(image: &[u8], i: Image, leads: &[u64], seen: u64) -> u64
-    requires { ⌜ Leading (now image) i (now leads) ⌝ }
-    ensures { λ r. ⌜ Spread (tablesOf (now (image .entry))) (stateCount i) seen r ⌝ }
-{
-    let n = states(i);
-    let mut next = seen;
-    let mut s: u16 = 0;
-    while s < n {
-        if has(next, s) {
-            let row = state_row(image, i, s);
-            next = next | leads[row as usize];
-        }
-        s += 1;
-    }
-    next
-}
-
-// The states that are reached.
-fn reached(image: &[u8], i: Image, leads: &[u64]) -> u64
-    requires { ⌜ Leading (now image) i (now leads) ⌝ }
-    ensures { λ r. ⌜ r ≡ reachedOf (tablesOf (now (image .entry))) ⌝ }
-{
-    let mut seen: u64 = 1;
-    loop {
-        let next = spread(image, i, leads, seen);
-        if next == seen {
-            return seen;
-        }
-        seen = next;
-    }
-}
-
 // What holds after an action that carries nothing to a state.
 fn stays(ends: u64, fine: bool) -> Went
     ensures { λ r. ⌜ r ≡ stayed ends fine ⌝ }
 {
     Went {
         ends,
-        moved: false,
+        moved: 0,
         fine,
     }
 }
@@ -172,10 +139,13 @@ fn jump(image: &[u8], i: Image, row: u16, entering: u64, top: u64, out: &mut [u6
     let q = w.a as usize;
     let old = out[q];
     let new = old & entering;
+    if new == old {
+        return stays(top, true);
+    }
     out[q] = new;
     Went {
         ends: top,
-        moved: new != old,
+        moved: 1 << w.a,
         fine: true,
     }
 }
@@ -197,11 +167,11 @@ fn walk(
 {
     let mut here = row;
     let mut set = entering;
-    let mut moved = false;
+    let mut moved: u64 = 0;
     let mut fine = true;
     while code(image, i, here) == 54 {
         let w = fields(image, i, here);
-        let r = walk(image, i, uses, defs, w.a, set, top, out);
+        let r = walk_first(image, i, uses, defs, w.a, set, top, out);
         set = r.ends;
         moved = moved | r.moved;
         fine = fine & r.fine;
@@ -213,6 +183,26 @@ fn walk(
         moved: moved | r.moved,
         fine: fine & r.fine,
     }
+}
+
+// The same of a sequence's first part: one without parts takes no stack.
+fn walk_first(
+    image: &[u8],
+    i: Image,
+    uses: &[u64],
+    defs: &[u64],
+    row: u16,
+    entering: u64,
+    top: u64,
+    out: &mut [u64],
+) -> Went
+    requires { ⌜ Ready (now image) i (now uses) (now defs) row top (now out) ⌝ }
+    ensures { λ r. ⌜ Walked (flow top entering (actionAt (tablesOf (now (image .entry))) row)) (now (out .entry)) (now (out .exit)) r ⌝ }
+{
+    if code(image, i, row) < 53 {
+        return plain(image, i, uses, defs, row, entering);
+    }
+    walk(image, i, uses, defs, row, entering, top, out)
 }
 
 // The same of an action that is no sequence.
@@ -264,7 +254,7 @@ fn walk_branches(
 {
     let mut here = row;
     let mut ends = top;
-    let mut moved = false;
+    let mut moved: u64 = 0;
     let mut fine = true;
     while here != 65535 {
         let w = fields(image, i, here);
@@ -293,7 +283,7 @@ fn walk_arms(
 {
     let mut here = row;
     let mut ends = top;
-    let mut moved = false;
+    let mut moved: u64 = 0;
     let mut fine = true;
     while here != 65535 {
         let w = fields(image, i, here);
@@ -345,70 +335,47 @@ fn begin(image: &[u8], i: Image, top: u64, sets: &mut [u64])
     sets[0] = parameters(image, i);
 }
 
-// One round over the reached states, in place: what is carried is met at once. Did a set change?
-fn round(
+// The mask of the states that err, once s is judged.
+fn mark(wrong: u64, s: u16, fine: bool) -> u64
+    requires { ⌜ s < 64 ⌝ }
+    ensures { λ r. ⌜ Marked s fine wrong r ⌝ }
+{
+    let bit: u64 = 1 << s;
+    if fine {
+        return wrong & !bit;
+    }
+    wrong | bit
+}
+
+// Walks until no state is due: the largest sets that fit, and the mask of the states that err with them. A state is due when
+// a walked state first jumps to it, and again when its set changes.
+fn settle(
     image: &[u8],
     i: Image,
     uses: &[u64],
     defs: &[u64],
-    seen: u64,
+    leads: &[u64],
     top: u64,
     sets: &mut [u64],
-) -> bool
-    requires { ⌜ Staged (now image) i (now uses) (now defs) seen top (now sets) ⌝ }
-    ensures { λ r. ⌜ Rounded (tablesOf (now (image .entry))) (length (now (sets .entry))) (now (sets .entry)) (now (sets .exit)) r ⌝ }
+) -> u64
+    requires { ⌜ Staged (now image) i (now uses) (now defs) (now leads) top (now sets) ⌝ }
+    ensures { λ r. ⌜ Settled (tablesOf (now (image .entry))) r (now (sets .exit)) ⌝ }
 {
-    let mut moved = false;
-    let mut s: u16 = 0;
-    while (s as usize) < sets.len() {
-        if has(seen, s) {
-            let row = state_row(image, i, s);
-            let set = sets[s as usize];
-            let r = walk(image, i, uses, defs, row, set, top, sets);
-            moved = moved | r.moved;
-        }
-        s += 1;
+    let mut due: u64 = 1;
+    let mut walked: u64 = 0;
+    let mut wrong: u64 = 0;
+    while due != 0 {
+        let s = lowest(due);
+        let row = state_row(image, i, s);
+        let led = leads[row as usize];
+        let set = sets[s as usize];
+        let r = walk(image, i, uses, defs, row, set, top, sets);
+        let bit: u64 = 1 << s;
+        walked = walked | bit;
+        due = (due & !bit) | (led & r.moved) | (led & !walked);
+        wrong = mark(wrong, s, r.fine);
     }
-    moved
-}
-
-// Rounds until one changes nothing: the largest sets that fit.
-fn settle(image: &[u8], i: Image, uses: &[u64], defs: &[u64], seen: u64, top: u64, sets: &mut [u64])
-    requires { ⌜ Staged (now image) i (now uses) (now defs) seen top (now sets) ⌝ }
-    ensures { λ _. ⌜ now (sets .exit) ≡ setsOf (tablesOf (now (image .entry))) ⌝ }
-{
-    let mut moving = true;
-    while moving {
-        moving = round(image, i, uses, defs, seen, top, sets);
-    }
-}
-
-// 11 at the lowest reached state whose action errs; with the largest sets a walk changes nothing.
-fn judge(
-    image: &[u8],
-    i: Image,
-    uses: &[u64],
-    defs: &[u64],
-    seen: u64,
-    top: u64,
-    sets: &mut [u64],
-) -> Verdict
-    requires { ⌜ Settled (now image) i (now uses) (now defs) seen top (now sets) ⌝ }
-    ensures { λ r. ⌜ Judged (tablesOf (now (image .entry))) r (now (sets .exit)) ⌝ }
-{
-    let mut s: u16 = 0;
-    while (s as usize) < sets.len() {
-        if has(seen, s) {
-            let row = state_row(image, i, s);
-            let set = sets[s as usize];
-            let r = walk(image, i, uses, defs, row, set, top, sets);
-            if !r.fine {
-                return Verdict::Refused(Refusal::Initialisation(State(s)));
-            }
-        }
-        s += 1;
-    }
-    Verdict::Accepted
+    wrong
 }
 
 // The sets and 11, with a set for each state.
@@ -424,10 +391,12 @@ fn initialisation(
     ensures { λ r. ⌜ Judged (tablesOf (now (image .entry))) r (now (sets .exit)) ⌝ }
 {
     let top = all(variables(i));
-    let seen = reached(image, i, leads);
     begin(image, i, top, sets);
-    settle(image, i, uses, defs, seen, top, sets);
-    judge(image, i, uses, defs, seen, top, sets)
+    let wrong = settle(image, i, uses, defs, leads, top, sets);
+    if wrong == 0 {
+        return Verdict::Accepted;
+    }
+    Verdict::Refused(Refusal::Initialisation(State(lowest(wrong))))
 }
 
 // The largest sets that fit, in the first entries lent, and 11 judged with them.

@@ -2,7 +2,7 @@
 use native.Mathlib.Omega.{arith}
 use borrow.Author.Needs.{needs}
 use Rattle.image.proofs.Laid.{laid}
-use Rattle.sets.proofs.Finding.{top-is, given-of, begun-staged}
+use Rattle.sets.proofs.Finding.{top-is, given-of, begun-staged, judged-none, judged-at}
 use Rattle.sets.proofs.initialisation.Statement.{statement}
 use Rattle.sets.proofs.initialisation.Tie as tie
 
@@ -12,31 +12,31 @@ variables-requires c κs = omega (arith, laid (c .before .before .before .before
 all-requires : tie.Need-all-requires
 all-requires c κs = omega (arith, laid (c .before .before .before .before .before .before .pre .lending .rooted .formed .located) .variablesMost, c .variables .ensures)
 
-reached-requires : tie.Need-reached-requires
-reached-requires c κs = search needs
-
 begin-requires : tie.Need-begin-requires
 begin-requires c κs =
-    let d = c .before .before .before .before .before .before .before .before .before .pre in
-    record { formed = d .lending .rooted .formed; all = top-is (d .lending .rooted) _ _ (c .before .before .before .variables .ensures) (c .before .before .all .ensures); size = d .size }
+    let d = c .before .before .before .before .before .before .before .before .pre in
+    record { formed = d .lending .rooted .formed; all = top-is (d .lending .rooted) _ _ (c .before .before .variables .ensures) (c .before .all .ensures); size = d .size }
 
 settle-requires : tie.Need-settle-requires
 settle-requires c κs = record {
-  given = given-of (c .before .before .before .before .before .before .before .before .before .before .before .before .before .pre) _ _ _ (c .before .before .before .before .before .reached .ensures) (c .before .before .before .before .before .before .before .variables .ensures) (c .before .before .before .before .before .before .all .ensures);
-  stage = begun-staged (c .before .before .before .before .before .before .before .before .before .before .before .before .before .pre) (c .before .before .before .begin .ensures);
-}
-
-judge-requires : tie.Need-judge-requires
-judge-requires c κs = record {
-  given = given-of (c .before .before .before .before .before .before .before .before .before .before .before .before .before .before .before .before .before .pre) _ _ _ (c .before .before .before .before .before .before .before .before .before .reached .ensures) (c .before .before .before .before .before .before .before .before .before .before .before .variables .ensures) (c .before .before .before .before .before .before .before .before .before .before .all .ensures);
-  largest = c .before .before .before .settle .ensures;
+  given = given-of (c .before .before .before .before .before .before .before .before .before .before .before .before .pre) _ _ (c .before .before .before .before .before .before .variables .ensures) (c .before .before .before .before .before .all .ensures);
+  stage = begun-staged (c .before .before .before .before .before .before .before .before .before .before .before .before .pre) (c .before .before .before .begin .ensures);
 }
 
 same-length : tie.Need-same-length
 same-length c = search needs
 
 returns : tie.Need-returns
-returns c = search needs
+returns c = judged-none (c .before .before .before .settle .ensures) (c .if1 .taken)
+
+lowest-requires : tie.Need-lowest-requires
+lowest-requires c κs = search needs
+
+same-length-2 : tie.Need-same-length-2
+same-length-2 c = search needs
+
+returns-2 : tie.Need-returns-2
+returns-2 c = judged-at (c .before .before .before .before .settle .ensures) _ (c .lowest .ensures)
 
 pub initialisation-spec : {M : Type 1} → statement M
 initialisation-spec =
@@ -44,9 +44,10 @@ initialisation-spec =
     (tie.spec
     variables-requires
     all-requires
-    reached-requires
     begin-requires
     settle-requires
-    judge-requires
     same-length
-    returns)
+    returns
+    lowest-requires
+    same-length-2
+    returns-2)

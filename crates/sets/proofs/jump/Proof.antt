@@ -5,7 +5,7 @@ use borrow.Author.Needs.{needs}
 use Rattle.model.specs.Masks.{meet}
 use Rattle.model.specs.Rows.{action}
 use Rattle.sets.proofs.Rows.{row-of-kind}
-use Rattle.sets.proofs.Steps.{jump-inside, do-jump}
+use Rattle.sets.proofs.Steps.{jump-inside, jump-small, still-jump, do-jump}
 use Rattle.sets.proofs.jump.Statement.{statement}
 use Rattle.sets.proofs.jump.Tie as tie
 
@@ -21,18 +21,31 @@ mul-old c = search needs
 slice-read-old : tie.Need-slice-read-old
 slice-read-old c = jump-inside (c .before .before .before .before .before .pre) (c .before .before .fields .ensures)
 
+stays-requires : tie.Need-stays-requires
+stays-requires c κs = search needs
+
+returns : tie.Need-returns
+unfolding meet
+returns c = still-jump (c .before .before .before .before .before .before .before .pre) (c .before .before .before .before .fields .ensures) _ _ refl (c .stays .ensures) (c .before .if1 .taken)
+
 mul-out : tie.Need-mul-out
 mul-out c = search needs
 
 slice-write-out : tie.Need-slice-write-out
-slice-write-out c = jump-inside (c .before .before .before .before .before .pre) (c .before .before .fields .ensures)
+slice-write-out c = jump-inside (c .before .before .before .before .before .before .pre) (c .before .before .before .fields .ensures)
+
+cast-t13 : tie.Need-cast-t13
+cast-t13 c = search needs
+
+shl-t16 : tie.Need-shl-t16
+shl-t16 c = jump-small (c .before .before .before .before .before .before .before .pre) (c .before .before .before .before .fields .ensures)
 
 same-length : tie.Need-same-length
 same-length c = search needs
 
-returns : tie.Need-returns
+returns-2 : tie.Need-returns-2
 unfolding meet
-returns c = do-jump (c .before .before .before .before .before .pre) (c .before .before .fields .ensures) _ _ refl
+returns-2 c = do-jump (c .before .before .before .before .before .before .before .pre) (c .before .before .before .before .fields .ensures) _ _ refl (c .before .if1 .left)
 
 pub jump-spec : {M : Type 1} → statement M
 jump-spec =
@@ -42,7 +55,11 @@ jump-spec =
     cast-q
     mul-old
     slice-read-old
+    stays-requires
+    returns
     mul-out
     slice-write-out
+    cast-t13
+    shl-t16
     same-length
-    returns)
+    returns-2)

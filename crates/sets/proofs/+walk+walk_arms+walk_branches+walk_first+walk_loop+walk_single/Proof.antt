@@ -15,40 +15,46 @@ use Rattle.sets.proofs.Steps.{do-plain, Walking, walking-all, first-rea
 use Rattle.sets.proofs.Listing.{Listing, branching, here-kind, branches-all, branch-ready, branch-low, branch-less, branches-on, branches-last, arming, arms-all, arm-masks, arm-ready, arm-low, arm-less, arms-on, arms-last}
 use Rattle.sets.proofs.walk.Reads as walk
 use Rattle.sets.proofs.walk.Kinds as walk-kinds
-use Rattle.sets.proofs.+walk+walk_arms+walk_branches+walk_loop+walk_single.Lts-walk as walk-lts
+use Rattle.sets.proofs.+walk+walk_arms+walk_branches+walk_first+walk_loop+walk_single.Lts-walk as walk-lts
 use Rattle.sets.proofs.walk_arms.Reads as walk-arms
 use Rattle.sets.proofs.walk_arms.Kinds as walk-arms-kinds
-use Rattle.sets.proofs.+walk+walk_arms+walk_branches+walk_loop+walk_single.Lts-walk_arms as walk-arms-lts
+use Rattle.sets.proofs.+walk+walk_arms+walk_branches+walk_first+walk_loop+walk_single.Lts-walk_arms as walk-arms-lts
 use Rattle.sets.proofs.walk_branches.Reads as walk-branches
 use Rattle.sets.proofs.walk_branches.Kinds as walk-branches-kinds
-use Rattle.sets.proofs.+walk+walk_arms+walk_branches+walk_loop+walk_single.Lts-walk_branches as walk-branches-lts
+use Rattle.sets.proofs.+walk+walk_arms+walk_branches+walk_first+walk_loop+walk_single.Lts-walk_branches as walk-branches-lts
+use Rattle.sets.proofs.walk_first.Reads as walk-first
+use Rattle.sets.proofs.walk_first.Kinds as walk-first-kinds
+use Rattle.sets.proofs.+walk+walk_arms+walk_branches+walk_first+walk_loop+walk_single.Lts-walk_first as walk-first-lts
 use Rattle.sets.proofs.walk_loop.Reads as walk-loop
 use Rattle.sets.proofs.walk_loop.Kinds as walk-loop-kinds
-use Rattle.sets.proofs.+walk+walk_arms+walk_branches+walk_loop+walk_single.Lts-walk_loop as walk-loop-lts
+use Rattle.sets.proofs.+walk+walk_arms+walk_branches+walk_first+walk_loop+walk_single.Lts-walk_loop as walk-loop-lts
 use Rattle.sets.proofs.walk_single.Reads as walk-single
 use Rattle.sets.proofs.walk_single.Kinds as walk-single-kinds
-use Rattle.sets.proofs.+walk+walk_arms+walk_branches+walk_loop+walk_single.Lts-walk_single as walk-single-lts
+use Rattle.sets.proofs.+walk+walk_arms+walk_branches+walk_first+walk_loop+walk_single.Lts-walk_single as walk-single-lts
 use Rattle.sets.proofs.jump.Reads as jump-reads
 use Rattle.sets.proofs.mask_at.Reads as mask-at-reads
 use Rattle.sets.proofs.plain.Reads as plain-reads
 use Rattle.sets.proofs.within.Reads as within-reads
-use Rattle.sets.proofs.+walk+walk_arms+walk_branches+walk_loop+walk_single.{statement}
-use Rattle.sets.proofs.+walk+walk_arms+walk_branches+walk_loop+walk_single.Tie.{close}
+use Rattle.sets.proofs.+walk+walk_arms+walk_branches+walk_first+walk_loop+walk_single.{statement}
+use Rattle.sets.proofs.+walk+walk_arms+walk_branches+walk_first+walk_loop+walk_single.Tie.{close}
 
 abbrev μ-walk : Measures 4 walk-kinds.ps ℕ
-μ-walk κs a = 3 * a .1 .1 .1 .1 .0 + 2
+μ-walk κs a = 4 * a .1 .1 .1 .1 .0 + 2
 
 abbrev μ-walk-arms : Measures 4 walk-arms-kinds.ps ℕ
-μ-walk-arms κs a = 3 * ((a .1 .1 .1 .1 .0 + 1) % 65536)
+μ-walk-arms κs a = 4 * ((a .1 .1 .1 .1 .0 + 1) % 65536)
 
 abbrev μ-walk-branches : Measures 4 walk-branches-kinds.ps ℕ
-μ-walk-branches κs a = 3 * ((a .1 .1 .1 .1 .0 + 1) % 65536)
+μ-walk-branches κs a = 4 * ((a .1 .1 .1 .1 .0 + 1) % 65536)
+
+abbrev μ-walk-first : Measures 4 walk-first-kinds.ps ℕ
+μ-walk-first κs a = 4 * a .1 .1 .1 .1 .0 + 3
 
 abbrev μ-walk-loop : Measures 4 walk-loop-kinds.ps ℕ
-μ-walk-loop κs a = 3 * a .1 .1 .1 .1 .0
+μ-walk-loop κs a = 4 * a .1 .1 .1 .1 .0
 
 abbrev μ-walk-single : Measures 4 walk-single-kinds.ps ℕ
-μ-walk-single κs a = 3 * a .1 .1 .1 .1 .0 + 1
+μ-walk-single κs a = 4 * a .1 .1 .1 .1 .0 + 1
 
 abbrev walk-at : ℕ → In 4 walk-kinds.ps
 walk-at t = and 4 walk-kinds.ps (is 4 walk-kinds.ps μ-walk t) walk.Pre
@@ -75,6 +81,12 @@ walk-branches-below t =
     (falls 4 walk-branches-kinds.ps _<_ μ-walk-branches t)
     walk-branches.Pre
 
+abbrev walk-first-at : ℕ → In 4 walk-first-kinds.ps
+walk-first-at t = and 4 walk-first-kinds.ps (is 4 walk-first-kinds.ps μ-walk-first t) walk-first.Pre
+
+abbrev walk-first-below : ℕ → In 4 walk-first-kinds.ps
+walk-first-below t = and 4 walk-first-kinds.ps (falls 4 walk-first-kinds.ps _<_ μ-walk-first t) walk-first.Pre
+
 abbrev walk-loop-at : ℕ → In 4 walk-loop-kinds.ps
 walk-loop-at t = and 4 walk-loop-kinds.ps (is 4 walk-loop-kinds.ps μ-walk-loop t) walk-loop.Pre
 
@@ -91,13 +103,16 @@ walk-single-below t =
     and 4 walk-single-kinds.ps (falls 4 walk-single-kinds.ps _<_ μ-walk-single t) walk-single.Pre
 
 abbrev walk-claims : ℕ → walk-lts.Claims
-walk-claims t = (code-reads.Asked, code-reads.Learnt, fields-reads.Asked, fields-reads.Learnt, walk-below t, walk.Post, walk-single-below t, walk-single.Post)
+walk-claims t = (code-reads.Asked, code-reads.Learnt, fields-reads.Asked, fields-reads.Learnt, walk-first-below t, walk-first.Post, walk-single-below t, walk-single.Post)
 
 abbrev walk-arms-claims : ℕ → walk-arms-lts.Claims
 walk-arms-claims t = (fields-reads.Asked, fields-reads.Learnt, mask-at-reads.Asked, mask-at-reads.Learnt, walk-below t, walk.Post)
 
 abbrev walk-branches-claims : ℕ → walk-branches-lts.Claims
 walk-branches-claims t = (fields-reads.Asked, fields-reads.Learnt, walk-below t, walk.Post)
+
+abbrev walk-first-claims : ℕ → walk-first-lts.Claims
+walk-first-claims t = (code-reads.Asked, code-reads.Learnt, plain-reads.Asked, plain-reads.Learnt, walk-below t, walk.Post)
 
 abbrev walk-loop-claims : ℕ → walk-loop-lts.Claims
 walk-loop-claims t = (fields-reads.Asked, fields-reads.Learnt, mask-at-reads.Asked, mask-at-reads.Learnt, walk-below t, walk.Post, within-reads.Asked, within-reads.Learnt)
@@ -121,14 +136,14 @@ walk-code-requires t c κs = row-of-kind action _ (c .loop .inv .ready .lent .fo
 walk-fields-requires : (t : ℕ) → walk-lts.Need-fields-requires (walk-claims t) (walk-at t) walk.Post walk-Inv-loop walk-μ-loop
 walk-fields-requires t c κs = row-of-kind action _ (c .before .before .loop .inv .ready .lent .formed) (omega arith) (c .before .before .loop .inv .ready .kind)
 
-walk-walk-requires : (t : ℕ) → walk-lts.Need-walk-requires (walk-claims t) (walk-at t) walk.Post walk-Inv-loop walk-μ-loop
-walk-walk-requires t c κs = (omega (arith, c .before .before .before .before .before .before .before .before .before .pre .0, first-low (c .before .before .before .before .loop .inv) (c .before .fields .ensures) (sym (c .before .before .before .code .ensures) ∙ c .before .before .if1 .taken)), first-ready (c .before .before .before .before .loop .inv) (c .before .fields .ensures) (sym (c .before .before .before .code .ensures) ∙ c .before .before .if1 .taken))
+walk-walk-first-requires : (t : ℕ) → walk-lts.Need-walk-first-requires (walk-claims t) (walk-at t) walk.Post walk-Inv-loop walk-μ-loop
+walk-walk-first-requires t c κs = (omega (arith, c .before .before .before .before .before .before .before .before .before .pre .0, first-low (c .before .before .before .before .loop .inv) (c .before .fields .ensures) (sym (c .before .before .before .code .ensures) ∙ c .before .before .if1 .taken)), first-ready (c .before .before .before .before .loop .inv) (c .before .fields .ensures) (sym (c .before .before .before .code .ensures) ∙ c .before .before .if1 .taken))
 
 walk-loop-less : (t : ℕ) → walk-lts.Need-loop-less (walk-claims t) (walk-at t) walk.Post walk-Inv-loop walk-μ-loop
 walk-loop-less t c = second-low (c .before .before .before .before .before .before .before .before .before .loop .inv) (c .before .before .before .before .before .before .fields .ensures) (sym (c .before .before .before .before .before .before .before .before .code .ensures) ∙ c .before .before .before .before .before .before .before .if1 .taken)
 
 walk-loop-again : (t : ℕ) → walk-lts.Need-loop-again (walk-claims t) (walk-at t) walk.Post walk-Inv-loop walk-μ-loop
-walk-loop-again t c = walking-on (c .before .before .before .before .before .before .before .before .before .loop .inv) (c .before .before .before .before .before .before .fields .ensures) (sym (c .before .before .before .before .before .before .before .before .code .ensures) ∙ c .before .before .before .before .before .before .before .if1 .taken) (c .before .before .before .before .walk .ensures)
+walk-loop-again t c = walking-on (c .before .before .before .before .before .before .before .before .before .loop .inv) (c .before .before .before .before .before .before .fields .ensures) (sym (c .before .before .before .before .before .before .before .before .code .ensures) ∙ c .before .before .before .before .before .before .before .if1 .taken) (c .before .before .before .before .walk-first .ensures)
 
 walk-walk-single-requires : (t : ℕ) → walk-lts.Need-walk-single-requires (walk-claims t) (walk-at t) walk.Post walk-Inv-loop walk-μ-loop
 walk-walk-single-requires t c κs = (omega (arith, c .before .before .before .before .before .before .before .before .pre .0, c .before .before .before .loop .inv .low), record { ready = c .before .before .before .loop .inv .ready; code = λ e. c .before .if1 .left (c .before .before .code .ensures ∙ e) })
@@ -197,6 +212,24 @@ walk-branches-same-length t c = c .before .loop .inv .rest .size
 
 walk-branches-returns : (t : ℕ) → walk-branches-lts.Need-returns (walk-branches-claims t) (walk-branches-at t) walk-branches.Post walk-branches-Inv-loop walk-branches-μ-loop
 walk-branches-returns t c = branches-last _ (c .before .loop .inv) (c .loop-test .left)
+
+walk-first-code-requires : (t : ℕ) → walk-first-lts.Need-code-requires (walk-first-claims t) (walk-first-at t) walk-first.Post
+walk-first-code-requires t c κs = row-of-kind action _ (c .before .before .before .before .pre .1 .lent .formed) (omega arith) (c .before .before .before .before .pre .1 .kind)
+
+walk-first-plain-requires : (t : ℕ) → walk-first-lts.Need-plain-requires (walk-first-claims t) (walk-first-at t) walk-first.Post
+walk-first-plain-requires t c κs = record { lent = c .before .before .before .before .before .before .pre .1 .lent; kind = c .before .before .before .before .before .before .pre .1 .kind; code = omega (arith, c .before .code .ensures, c .if1 .taken) }
+
+walk-first-returns : (t : ℕ) → walk-first-lts.Need-returns (walk-first-claims t) (walk-first-at t) walk-first.Post
+walk-first-returns t c = do-plain (c .before .before .before .before .before .before .before .pre .1 .sets) (c .plain .ensures)
+
+walk-first-walk-requires : (t : ℕ) → walk-first-lts.Need-walk-requires (walk-first-claims t) (walk-first-at t) walk-first.Post
+walk-first-walk-requires t c κs = (omega (arith, c .before .before .before .before .before .before .before .pre .0), c .before .before .before .before .before .before .before .pre .1)
+
+walk-first-same-length : (t : ℕ) → walk-first-lts.Need-same-length (walk-first-claims t) (walk-first-at t) walk-first.Post
+walk-first-same-length t c = c .before .before .walk .kept .1 .1 .1 .1 .1 .1 .1 .0
+
+walk-first-returns-2 : (t : ℕ) → walk-first-lts.Need-returns-2 (walk-first-claims t) (walk-first-at t) walk-first.Post
+walk-first-returns-2 t c = c .before .before .walk .ensures
 
 walk-loop-fields-requires : (t : ℕ) → walk-loop-lts.Need-fields-requires (walk-loop-claims t) (walk-loop-at t) walk-loop.Post
 walk-loop-fields-requires t c κs = row-of-kind action _ (c .before .before .before .before .pre .1 .ready .lent .formed) (omega arith) (c .before .before .before .before .pre .1 .ready .kind)
@@ -283,9 +316,9 @@ walk-single-returns-4 t c = c .before .before .walk-loop .ensures
 walk-single-returns-5 : (t : ℕ) → walk-single-lts.Need-returns-5 (walk-single-claims t) (walk-single-at t) walk-single.Post
 walk-single-returns-5 t c = do-plain (c .before .before .before .before .before .before .before .before .pre .1 .ready .sets) (c .plain .ensures)
 
-pub +walk+walk-arms+walk-branches+walk-loop+walk-single-spec : {M : Type 1} → statement M
-+walk+walk-arms+walk-branches+walk-loop+walk-single-spec =
-    close μ-walk μ-walk-arms μ-walk-branches μ-walk-loop μ-walk-single (λ t. walk-lts.spec (walk-claims t)
+pub +walk+walk-arms+walk-branches+walk-first+walk-loop+walk-single-spec : {M : Type 1} → statement M
++walk+walk-arms+walk-branches+walk-first+walk-loop+walk-single-spec =
+    close μ-walk μ-walk-arms μ-walk-branches μ-walk-first μ-walk-loop μ-walk-single (λ t. walk-lts.spec (walk-claims t)
     (walk-at t)
     walk.Post
     walk-Inv-loop
@@ -293,7 +326,7 @@ pub +walk+walk-arms+walk-branches+walk-loop+walk-single-spec : {M : Type 1} → 
     (walk-loop-holds t)
     (walk-code-requires t)
     (walk-fields-requires t)
-    (walk-walk-requires t)
+    (walk-walk-first-requires t)
     (walk-loop-less t)
     (walk-loop-again t)
     (walk-walk-single-requires t)
@@ -324,6 +357,15 @@ pub +walk+walk-arms+walk-branches+walk-loop+walk-single-spec : {M : Type 1} → 
     (walk-branches-loop-again t)
     (walk-branches-same-length t)
     (walk-branches-returns t))
+    (λ t. walk-first-lts.spec (walk-first-claims t)
+    (walk-first-at t)
+    walk-first.Post
+    (walk-first-code-requires t)
+    (walk-first-plain-requires t)
+    (walk-first-returns t)
+    (walk-first-walk-requires t)
+    (walk-first-same-length t)
+    (walk-first-returns-2 t))
     (λ t. walk-loop-lts.spec (walk-loop-claims t)
     (walk-loop-at t)
     walk-loop.Post
