@@ -17,7 +17,8 @@ use Rattle.model.proofs.Rows.{one-true}
 use Rattle.model.proofs.Order.{after-both, each-all}
 use Rattle.model.proofs.Values.{same-refl}
 use Rattle.demands.proofs.Whole.{Whole, entry-of}
-use Rattle.demands.proofs.Typed.{TypedStore, value-defined}
+use Rattle.demands.specs.Stores.{TypedStore}
+use Rattle.demands.proofs.Typed.{value-defined}
 
 abbrev noEntry : Entry
 noEntry = record { type = 0; parameter = 0 }

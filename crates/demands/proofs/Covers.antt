@@ -16,7 +16,8 @@ use Rattle.model.proofs.Masks.{digit-le, digit-join, digit-without, digit-bit-h
 use Rattle.demands.proofs.All.{All, nil, cons}
 use Rattle.demands.proofs.Whole.{Whole}
 use Rattle.demands.proofs.Good.{Inside, GoodPat}
-use Rattle.demands.proofs.Typed.{TypedStore, OfType, store-typed, reset-typed, value-defined}
+use Rattle.demands.specs.Stores.{TypedStore}
+use Rattle.demands.proofs.Typed.{OfType, store-typed, reset-typed, value-defined}
 use Rattle.demands.proofs.Subsets.{sub-has, join-zero, sub-left, sub-right, bit-in, less-none, less-next}
 
 -- each variable of b is defined

@@ -19,7 +19,8 @@ use Rattle.demands.proofs.All.{All, nil, cons}
 use Rattle.demands.proofs.Whole.{Whole}
 use Rattle.demands.proofs.Good.{Inside, GoodOffer, GoodGets, GoodOfType}
 use Rattle.demands.proofs.Hoare.{Post, Shown, same-post, Like, after, weaken, wordOf, value, test-of, loops}
-use Rattle.demands.proofs.Typed.{TypedStore, OfType, eval-typed}
+use Rattle.demands.specs.Stores.{TypedStore}
+use Rattle.demands.proofs.Typed.{OfType, eval-typed}
 use Rattle.demands.proofs.Kept.{low-good, onward-good}
 use Rattle.demands.proofs.Subsets.{join-zero, bit-sub, join-none, join-next, join-one}
 use Rattle.demands.proofs.Covers.{Covers, Held, held-sub, held-store, eval-sure, test-sure, suits-rule, match-suits}

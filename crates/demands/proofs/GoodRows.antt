@@ -201,7 +201,7 @@ module _ (x : Tables) (w : Whole x) where
   short zero (suc n) r h = short-by (eqb r none) zero n r (λ g. absurd (omega arith)) h
   short (suc k) (suc n) r h = short-by (eqb r none) (suc k) n r (λ g. let i = short k n (nextOf x r) (omega arith) in omega arith) h
 
-  short-list : (k r : ℕ) → length (listUpTo (suc k) x r) ≤ k → length (listAt x r) ≤ k
+  pub short-list : (k r : ℕ) → length (listUpTo (suc k) x r) ≤ k → length (listAt x r) ≤ k
   unfolding listAt
   short-list k r h = short k (suc r) r h
 

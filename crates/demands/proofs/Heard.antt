@@ -18,7 +18,8 @@ use Rattle.demands.proofs.All.{All, nil, cons}
 use Rattle.demands.proofs.Whole.{Whole}
 use Rattle.demands.proofs.Good.{GoodGets, Good, GoodAct, GoodBranches, GoodArms}
 use Rattle.demands.proofs.Hoare.{Post, Shown, Within, same-post, Like, after, weaken, charged, word, wordOf, value, test-of, loops}
-use Rattle.demands.proofs.Typed.{TypedStore, OfType, store-typed, eval-typed, match-typed}
+use Rattle.demands.specs.Stores.{TypedStore}
+use Rattle.demands.proofs.Typed.{OfType, store-typed, eval-typed, match-typed}
 use Rattle.demands.proofs.Kept.{Kept, low-good, onward-good, kept}
 use Rattle.demands.proofs.Caught.{caught, exhaustive-caught, rest-caught}
 use Rattle.demands.proofs.Ways.{Lets, either-left, either-right, then-lets, while-body, for-body, for-ends, ends-as, in-mode, quiet-unless, unless-then}

@@ -15,7 +15,8 @@ use Rattle.demands.proofs.All.{All, nil, cons}
 use Rattle.demands.proofs.Whole.{Whole}
 use Rattle.demands.proofs.Good.{Inside, GoodExp, GoodOffer, GoodGets, GoodOfType, Good, GoodAct, GoodBranches, GoodArms}
 use Rattle.demands.proofs.Hoare.{Post, Shown, same-post, Like, after, charged, word, wordOf, value, test-of, loops}
-use Rattle.demands.proofs.Typed.{TypedStore, OfType, store-typed, reset-typed, int-constant, eval-typed, match-typed}
+use Rattle.demands.specs.Stores.{TypedStore}
+use Rattle.demands.proofs.Typed.{OfType, store-typed, reset-typed, int-constant, eval-typed, match-typed}
 
 -- typed at the end and at a jump
 abbrev pub Kept : Tables → Post

@@ -17,13 +17,9 @@ use Rattle.model.specs.Run.{slot, store, defined, applyUnary, applyBinary, eval
 use Rattle.model.specs.Calls.{slotOfType, slotFits}
 use Rattle.model.proofs.Rows.{both-true, one-true}
 use Rattle.model.proofs.Values.{same-refl, ofSize-int, ofSize-not-mark, ofBool-of-bool, negate-in, plus-in, minus-in, times-in, quotient-in, remainder-in}
+use Rattle.demands.specs.Stores.{TypedStore}
 use Rattle.demands.proofs.Whole.{Whole, sizes-of}
 use Rattle.demands.proofs.Good.{Inside, GoodConstant, GoodExp, GoodPat}
-
--- the store passes 13 and 18
-pub record TypedStore (x : Tables) (m : List ℤ) : Type 0 where
-  pub size : length m ≡ length (x .variables)
-  pub each : (v : ℕ) → v < length (x .variables) → slotFits x m v ≡ true
 
 -- a value of type t
 abbrev pub OfType : Tables → ℕ → ℤ → Type 0

@@ -3,6 +3,7 @@ pub mod Values
 pub mod Bytes
 pub mod Masks
 pub mod Rows
+pub mod Codes
 pub mod Decode
 pub mod Passed
 pub mod Run

@@ -21,7 +21,7 @@ use Rattle.image.specs.Located as located
 use Rattle.image.proofs.Laid.{half-is}
 use Rattle.speech.specs.Filled.{armsAt}
 use Rattle.speech.specs.Case.{RowOrNone, OfKind, OrNone, CaughtAs, CaughtBy, ValueBit}
-use Rattle.speech.proofs.Codes.{codeOf, known-in, code-of}
+use Rattle.model.proofs.Codes.{codeOf, known-in, code-of}
 use Rattle.speech.proofs.Places.{rows-formed, rows-few, some-row}
 use Rattle.speech.proofs.Steps.{arms-step, arms-none}
 use Rattle.speech.proofs.Sixty.{has-zero, has-or}

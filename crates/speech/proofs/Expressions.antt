@@ -19,7 +19,7 @@ use Rattle.model.proofs.Decode.{expressionAt-is}
 use Rattle.image.specs.Located.{VariableOf}
 use Rattle.image.proofs.Laid.{laid, types-count, variables-count}
 use Rattle.speech.specs.Case.{OfKind, TypeIs}
-use Rattle.speech.proofs.Codes.{codeOf, means, code-of}
+use Rattle.model.proofs.Codes.{codeOf, means, code-of}
 use Rattle.speech.proofs.Places.{rows-formed}
 
 entry-in : (n : ℕ) (es : List Entry) → entriesFit n es ≡ true → (v : ℕ) (d : Entry) → v < length es → getD es v d .type < n

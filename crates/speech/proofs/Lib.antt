@@ -1,5 +1,4 @@
 pub mod Bits
-pub mod Codes
 pub mod Steps
 pub mod Places
 pub mod Expressions

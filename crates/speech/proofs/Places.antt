@@ -11,7 +11,7 @@ use Rattle.image.specs.Located as located
 use Rattle.image.specs.Located.{RowOf}
 use Rattle.image.proofs.Laid.{laid, rows-count}
 use Rattle.speech.specs.Case.{RowOrNone, OfKind, OrNone}
-use Rattle.speech.proofs.Codes.{isKnown, known-in}
+use Rattle.model.proofs.Codes.{isKnown, known-in}
 
 pub rows-formed : {s : List ℕ} {i : Image} → located.Formed s i → Formed (tablesOf s)
 rows-formed h = record { each = h .rows }

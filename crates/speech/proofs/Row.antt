@@ -14,7 +14,7 @@ use Rattle.model.proofs.Rows.{Formed, row-is}
 use Rattle.speech.specs.Both.{Both, unpacked, kept, nowhereBoth, said, spokenNeeds, eitherOf, followed, loopedWhile, loopedFor}
 use Rattle.speech.specs.Filled.{waysAt, firstOf, Ready}
 use Rattle.speech.specs.Case.{OrNone, CaseOf, exhaustiveAt}
-use Rattle.speech.proofs.Codes.{means}
+use Rattle.model.proofs.Codes.{means}
 use Rattle.speech.proofs.Places.{rows-formed, rows-few}
 use Rattle.speech.proofs.Exhausted.{short}
 use Rattle.speech.proofs.Steps.{firstAt, Others, null-row, assign-row, choose-row, reset-row, communicate-row, to-row, then-row, select-row, case-row, branch-row, arm-row, while-row, for-row, other-row}

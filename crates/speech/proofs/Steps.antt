@@ -16,7 +16,7 @@ use Rattle.model.proofs.Decode.{actionAt-is, listAt-none, listAt-step}
 use Rattle.speech.specs.Both.{Both, both, kept, nowhereBoth, said, spokenNeeds, eitherOf, followed, loopedWhile, loopedFor}
 use Rattle.speech.specs.Filled.{branchesAt, armsAt, waysBy, waysAt}
 use Rattle.speech.specs.Case.{RowOrNone, exhaustiveAt}
-use Rattle.speech.proofs.Codes.{codeOf, known, means, isKnown, known-in, next-is}
+use Rattle.model.proofs.Codes.{codeOf, known, means, isKnown, known-in, next-is}
 
 by-kind : (x : Tables) (r : ℕ) (k : Kind) → kindOf (meansAt x r) ≡ k → waysAt x r ≡ waysBy x r k
 unfolding waysAt

@@ -21,7 +21,7 @@ use Rattle.binding.specs.Bound.{bindingVerdict, Masked as BindingMasked}
 use Rattle.sets.specs.States.{Lending, Room, Found as SetsFound}
 use Rattle.image.proofs.Laid.{laid, states-count}
 use Rattle.typing.specs.Rules.{typingVerdict}
-use Rattle.stages.specs.Judging.{tablesVerdict, Lent, Ruled, Masked, roomStage, leaves, Gives, foundVerdict, Found, Flowing, roomVerdict, Flowed, treesVerdict, Judged, Treeing, Sized, Checks}
+use Rattle.stages.specs.Judging.{tablesVerdict, Lent, Ruled, Masked, roomStage, leaves, Gives, foundVerdict, Found, Flowing, roomVerdict, Flowed, treesVerdict, Judged, Treeing, Sized, Ruling, Checks}
 use Rattle.stages.proofs.Order.{image-is}
 use Rattle.speech.specs.Verdict.{speechVerdict}
 use Rattle.speech.specs.Filled.{Lent as SpeechLent}
@@ -201,6 +201,16 @@ judge-trees s room r {was} f e g =
       verdict = g .verdict ∙ sym (check-trees s room ∙ after-accepted (tablesVerdict s) _ k);
       left = g .left ∙ sym (ap (λ (u : Verdict). leaves u (tablesOf s) was) (after-image s _) ∙ leaves-on (tablesVerdict s) _ (tablesOf s) was k);
     }
+
+-- 1 to 9
+pub image-stays : (s : List ℕ) {v : Verdict} (y : Refusal) → v ≡ tablesVerdict s → v ≡ Refused y → v ≡ imageVerdict s
+image-stays s y f e = e ∙ sym (image-tables s ∙ after-refused (tablesVerdict s) _ y (sym f ∙ e))
+
+pub image-rules : (s : List ℕ) {v : Verdict} (r : Verdict) → v ≡ tablesVerdict s → v ≡ Accepted → r ≡ rulesVerdict (tablesOf s) → r ≡ imageVerdict s
+image-rules s r f e g = g ∙ sym (image-tables s ∙ after-accepted (tablesVerdict s) _ (sym f ∙ e))
+
+pub to-ruling : {s : List ℕ} {i : Image} → Rooted s i → Ruling s i 2048
+to-ruling r = record { rooted = r; rows = laid (r .formed .located) .rowsMost }
 
 -- what an accepted image has passed
 module _ (s : List ℕ) (room : ℕ) (e : checkVerdict s room ≡ Accepted) where

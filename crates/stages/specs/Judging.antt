@@ -85,6 +85,11 @@ pub record Sized (s : List ℕ) (i : Image) (most : ℕ) (masks : List ℕ) : Ty
   pub rows : rowCount i ≤ most
   pub room : 64 ≤ length masks
 
+-- an image free of 1 to 7 with at most so many rows
+pub record Ruling (s : List ℕ) (i : Image) (most : ℕ) : Type 0 where
+  pub rooted : Rooted s i
+  pub rows : rowCount i ≤ most
+
 -- 1 to 12
 abbrev pub Checks : List ℕ → ℕ → Verdict → List ℕ → List ℕ → Type 0
 Checks s room = Gives (checkVerdict s room) (after (imageVerdict s) (roomStage (tablesOf s) room)) (tablesOf s)

@@ -3,7 +3,8 @@ ghost use mathlib.Core.Path.{_≡_};
 ghost use lib.ListN.{length};
 ghost use Rattle.model.specs.Image.{tablesOf, rowCount};
 ghost use Prim.Native.Nat.{_≤_};
-ghost use Rattle.stages.specs.Judging.{tablesVerdict, Lent, Ruled, Masked, Found, Flowing, Flowed, Treeing, Judged, Sized, Checks};
+ghost use Rattle.stages.specs.Judging.{tablesVerdict, Lent, Ruled, Masked, Found, Flowing, Flowed, Treeing, Judged, Sized, Ruling, Checks};
+ghost use Rattle.model.specs.Calls.{rulesVerdict, imageVerdict};
 use binding::binding_verdict;
 use header::header;
 use image::trailer;
@@ -191,6 +192,65 @@ pub fn judge(image: &[u8], room: usize, masks: &mut [u64]) -> Verdict
         Verdict::Accepted => {
             let i = trailer(image);
             sized(image, i, room, masks)
+        }
+    }
+}
+
+// 8 and 9 on scratch for 128 rows, for 512 and for any image.
+fn rules_small(image: &[u8], i: Image) -> Verdict
+    requires { ⌜ Ruling (now image) i 128 ⌝ }
+    ensures { λ r. ⌜ r ≡ rulesVerdict (tablesOf (now (image .entry))) ⌝ }
+{
+    let mut uses = [0u64; 128];
+    let mut defs = [0u64; 128];
+    let mut leads = [0u64; 128];
+    rules(image, i, &mut uses, &mut defs, &mut leads)
+}
+
+fn rules_medium(image: &[u8], i: Image) -> Verdict
+    requires { ⌜ Ruling (now image) i 512 ⌝ }
+    ensures { λ r. ⌜ r ≡ rulesVerdict (tablesOf (now (image .entry))) ⌝ }
+{
+    let mut uses = [0u64; 512];
+    let mut defs = [0u64; 512];
+    let mut leads = [0u64; 512];
+    rules(image, i, &mut uses, &mut defs, &mut leads)
+}
+
+fn rules_large(image: &[u8], i: Image) -> Verdict
+    requires { ⌜ Ruling (now image) i 2048 ⌝ }
+    ensures { λ r. ⌜ r ≡ rulesVerdict (tablesOf (now (image .entry))) ⌝ }
+{
+    let mut uses = [0u64; Image::ROWS as usize];
+    let mut defs = [0u64; Image::ROWS as usize];
+    let mut leads = [0u64; Image::ROWS as usize];
+    rules(image, i, &mut uses, &mut defs, &mut leads)
+}
+
+fn rules_sized(image: &[u8], i: Image) -> Verdict
+    requires { ⌜ Ruling (now image) i 2048 ⌝ }
+    ensures { λ r. ⌜ r ≡ rulesVerdict (tablesOf (now (image .entry))) ⌝ }
+{
+    let n = row_count(image, i);
+    if n <= 128 {
+        return rules_small(image, i);
+    }
+    if n <= 512 {
+        return rules_medium(image, i);
+    }
+    rules_large(image, i)
+}
+
+// 1 to 9: what every call refuses first.
+pub fn image_verdict(image: &[u8]) -> Verdict
+    ensures { λ r. ⌜ r ≡ imageVerdict (now (image .entry)) ⌝ }
+{
+    let v = tables(image);
+    match v {
+        Verdict::Refused(_) => v,
+        Verdict::Accepted => {
+            let i = trailer(image);
+            rules_sized(image, i)
         }
     }
 }

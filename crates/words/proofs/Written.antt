@@ -29,9 +29,9 @@ written-flat k (n ∷ ns) s =
     rw (written-flat k ns (drop k s), drop-drop, e, append-assoc)
 
 -- nothing written yet
-pub written-none : (k : ℕ) (ns s : List ℕ) → s ≡ written k (take 0 ns) s
+pub written-none : (k : ℕ) (s : List ℕ) → s ≡ written k [] s
 unfolding written
-written-none k ns s = refl
+written-none k s = refl
 
 flat-step : (k : ℕ) (ns s₀ s : List ℕ) (i : ℕ) → i < length ns → length (flat k (take i ns)) ≡ k * i → s ≡ flat k (take i ns) ++ drop (k * i) s₀
     → take (k * i) s ++ bytesOf k (getD ns i 0) ++ drop (k * i + k) s ≡ flat k (take (i + 1) ns) ++ drop (k * (i + 1)) s₀

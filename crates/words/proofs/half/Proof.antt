@@ -1,41 +1,31 @@
+-- `words::half` meets its contract. Assumes nothing.
 use borrow.Author.Needs.{needs}
 use native.Mathlib.Omega.{arith}
 use Rattle.model.proofs.Bytes.{halfAt-bytes}
 use Rattle.words.proofs.half.Statement.{statement}
 use Rattle.words.proofs.half.Tie as tie
-use Rattle.words.proofs.half.Reads as reads
-use Rattle.words.proofs.half.Lts as lts
-use Rattle.words.proofs.wide.Reads as wide-reads
 
--- src/lib.rt:18:10
 shared-slice-read-wide : tie.Need-shared-slice-read-wide
 shared-slice-read-wide c = search needs
 
--- src/lib.rt:18:5
 wide-requires : tie.Need-wide-requires
 wide-requires c κs = search needs
 
--- src/lib.rt:18:26
 add-wide : tie.Need-add-wide
 add-wide c = search needs
 
--- src/lib.rt:18:24
 shared-slice-read-wide-2 : tie.Need-shared-slice-read-wide-2
 shared-slice-read-wide-2 c = search needs
 
--- src/lib.rt:18:19
 wide-requires-2 : tie.Need-wide-requires-2
 wide-requires-2 c κs = search needs
 
--- src/lib.rt:18:19
 mul-result : tie.Need-mul-result
 mul-result c = search needs
 
--- src/lib.rt:18:5
 add-result : tie.Need-add-result
 add-result c = search needs
 
--- src/lib.rt:14:1
 returns : tie.Need-returns
 returns c = rw halfAt-bytes (omega arith)
 

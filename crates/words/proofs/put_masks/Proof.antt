@@ -1,3 +1,4 @@
+-- `words::put_masks` meets its contract. Assumes nothing.
 use borrow.Author.Needs.{needs}
 use mathlib.Core.{Path._≡_, Path.refl, Path._∙_}
 use Prim.Native.Nat.{_≤_, _-_}
@@ -7,9 +8,6 @@ use Rattle.model.specs.Bytes.{written}
 use Rattle.words.proofs.Written.{written-none, written-step}
 use Rattle.words.proofs.put_masks.Statement.{statement}
 use Rattle.words.proofs.put_masks.Tie as tie
-use Rattle.words.proofs.put_masks.Reads as reads
-use Rattle.words.proofs.put_masks.Lts as lts
-use Rattle.words.proofs.put.Reads as put-reads
 
 abbrev Inv-loop : tie.InvT-loop
 Inv-loop s₀ masks count i₀ s i = (i ≤ count) × (length s ≡ length s₀) × (s ≡ written 8 (take i masks) s₀)
@@ -17,46 +15,36 @@ Inv-loop s₀ masks count i₀ s i = (i ≤ count) × (length s ≡ length s₀)
 abbrev μ-loop : tie.MeasureT-loop
 μ-loop s₀ masks count i₀ s i = count - i
 
--- src/lib.rt:42:5
 loop-holds : tie.Need-loop-holds Inv-loop μ-loop
-loop-holds c = (search needs, refl, written-none 8 (c .before .before .args .masks .now) (c .before .before .args .s .now))
+loop-holds c = (search needs, refl, written-none 8 (c .before .before .args .s .now))
 
--- src/lib.rt:43:16
 mul-put : tie.Need-mul-put Inv-loop μ-loop
 mul-put c = search needs
 
--- src/lib.rt:43:23
 mul-put-2 : tie.Need-mul-put-2 Inv-loop μ-loop
 mul-put-2 c = search needs
 
--- src/lib.rt:43:23
 shared-slice-read-put : tie.Need-shared-slice-read-put Inv-loop μ-loop
 shared-slice-read-put c = search needs
 
--- src/lib.rt:43:9
 put-requires : tie.Need-put-requires Inv-loop μ-loop
 put-requires c κs = search needs
 
--- src/lib.rt:44:9
 add-i : tie.Need-add-i Inv-loop μ-loop
 add-i c = search needs
 
--- src/lib.rt:42:5
 loop-less : tie.Need-loop-less Inv-loop μ-loop
 loop-less c = search needs
 
--- src/lib.rt:42:5
 loop-again : tie.Need-loop-again Inv-loop μ-loop
 loop-again c =
     let o = c .before .before .before .before .before .before in
     let a = c .before .before .before .before .before .before .before .before .before in
     (omega arith, omega (arith, c .before .before .put .kept .0), c .before .before .put .ensures ∙ written-step 8 (a .args .masks .now) (a .args .s .now) (o .loop .s) (o .loop .i) (omega arith) (o .loop .inv .2))
 
--- src/lib.rt:37:1
 same-length : tie.Need-same-length Inv-loop μ-loop
 same-length c = search needs
 
--- src/lib.rt:37:1
 returns : tie.Need-returns Inv-loop μ-loop
 returns c =
     let e : c .before .loop .i ≡ c .before .before .before .before .args .count = omega arith in

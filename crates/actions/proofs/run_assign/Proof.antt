@@ -1,0 +1,33 @@
+use borrow.Author.Needs.{needs}
+use Rattle.actions.proofs.Done.{assign-items, assign-ends, assign-fails}
+use Rattle.actions.proofs.run_assign.Statement.{statement}
+use Rattle.actions.proofs.run_assign.Tie as tie
+use Rattle.actions.proofs.run_assign.Reads as reads
+use Rattle.actions.proofs.run_assign.Lts as lts
+use Rattle.actions.proofs.assign.Reads as assign-reads
+
+-- src/lib.rt:170:8
+assign-requires : tie.Need-assign-requires
+assign-requires c κs =
+    assign-items (c .before .before .pre)
+
+-- src/lib.rt:171:9
+same-length : tie.Need-same-length
+same-length c = search needs
+
+-- src/lib.rt:171:9
+returns : tie.Need-returns
+returns c =
+    assign-ends (c .before .before .before .before .before .pre) _ (c .before .before .assign .ensures) (c .if1 .taken)
+
+-- src/lib.rt:166:1
+same-length-2 : tie.Need-same-length-2
+same-length-2 c = search needs
+
+-- src/lib.rt:166:1
+returns-2 : tie.Need-returns-2
+returns-2 c =
+    assign-fails (c .before .before .before .before .before .pre) _ (c .before .before .assign .ensures) (c .if1 .left)
+
+pub run-assign-spec : {M : Type 1} → statement M
+run-assign-spec = tie.close (tie.spec assign-requires same-length returns same-length-2 returns-2)

@@ -1,0 +1,4 @@
+pub mod Doing
+pub mod Items
+pub mod State
+pub mod Words

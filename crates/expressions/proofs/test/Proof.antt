@@ -1,0 +1,34 @@
+use borrow.Author.Needs.{needs}
+use Rattle.expressions.proofs.Ways.{test-fails, test-holds, test-unsure}
+use Rattle.expressions.proofs.test.Statement.{statement}
+use Rattle.expressions.proofs.test.Tie as tie
+use Rattle.expressions.proofs.test.Reads as reads
+use Rattle.expressions.proofs.test.Lts as lts
+use Rattle.expressions.proofs.eval.Reads as eval-reads
+
+-- src/lib.rt:127:11
+eval-requires : tie.Need-eval-requires
+eval-requires c κs = search needs
+
+-- src/lib.rt:128:19
+enum-known-a : tie.Need-enum-known-a
+enum-known-a c = search needs
+
+-- src/lib.rt:135:27
+enum-told : tie.Need-enum-told
+enum-told c = search needs
+
+-- src/lib.rt:123:1
+returns : tie.Need-returns
+returns c = test-fails (c .before .before .before .before .before .before .pre) (c .before .before .before .before .eval .ensures) (c .before .before .a .given .1) (c .if1 .taken)
+
+-- src/lib.rt:123:1
+returns-2 : tie.Need-returns-2
+returns-2 c = test-holds (c .before .before .before .before .before .before .pre) (c .before .before .before .before .eval .ensures) (c .before .before .a .given .1) (c .if1 .left)
+
+-- src/lib.rt:123:1
+returns-3 : tie.Need-returns-3
+returns-3 c = test-unsure _ _ _ (c .before .before .eval .ensures) (c .enum-told .given .1)
+
+pub test-spec : {M : Type 1} → statement M
+test-spec = tie.close (tie.spec eval-requires enum-known-a enum-told returns returns-2 returns-3)

@@ -1,0 +1,131 @@
+// Expressions, evaluated on a store: by recursion on rows, an undefined read an answer of its own.
+ghost use mathlib.Core.Path.{_≡_};
+ghost use Prim.Native.Nat.{_<_};
+ghost use lib.ListN.{length, getD};
+ghost use lib.Signed.{mag};
+ghost use Rattle.model.specs.Image.{tablesOf, fieldsOf};
+ghost use Rattle.model.specs.Values.{half16, mark};
+ghost use Rattle.model.specs.Rows.{expression};
+ghost use Rattle.model.specs.Decode.{expressionAt};
+ghost use Rattle.model.specs.Run.{applyUnary, applyBinary, eval, test};
+ghost use Rattle.expressions.specs.Operators.{unaryOf, binaryOf, valueOf, constantBy};
+ghost use Rattle.expressions.specs.Ready.{RowFrom, Runs};
+use model::Fields;
+use model::Tested;
+use model::Value;
+use values::minus;
+use values::negate;
+use values::of_bool;
+use values::plus;
+use values::quotient;
+use values::remainder;
+use values::signed;
+use values::times;
+use words::half;
+
+// Half the number of int's values.
+const HALF: u16 = 32768;
+
+const INT: u16 = 1;
+
+// The mark of an undefined variable.
+const UNDEFINED: i32 = 65536;
+
+// The fields of a row, by where the rows start.
+pub fn row(image: &[u8], rows: u16, r: u16) -> Fields
+    requires { ⌜ RowFrom (now image) rows r ⌝ }
+    ensures { λ w. ⌜ w ≡ fieldsOf (tablesOf (now (image .entry))) r ⌝ }
+{
+    let at = rows as usize + r as usize * 8;
+    Fields {
+        code: half(image, at),
+        a: half(image, at + 2),
+        b: half(image, at + 4),
+        c: half(image, at + 6),
+    }
+}
+
+// A variable's value.
+pub fn value(store: &[i32], v: u16) -> Value
+    requires { ⌜ v < length (now store) ⌝ }
+    ensures { λ r. ⌜ r ≡ valueOf (getD (now (store .entry)) v (mark half16)) ⌝ }
+{
+    let z = store[v as usize];
+    if z == UNDEFINED {
+        return Value::Unknown;
+    }
+    Value::Is(z)
+}
+
+// The value of a constant of type a.
+pub fn constant(a: u16, b: u16) -> i32
+    ensures { λ z. ⌜ z ≡ constantBy a b ⌝ }
+{
+    if a == INT {
+        return signed(HALF, b);
+    }
+    b as i32
+}
+
+fn unary(code: u16, a: i32) -> i32
+    requires { ⌜ mag a < 32768 ⌝ }
+    ensures { λ z. ⌜ z ≡ applyUnary half16 (unaryOf code) a ⌝ }
+{
+    if code == 16 {
+        return of_bool(a == 0);
+    }
+    negate(HALF, a)
+}
+
+fn binary(code: u16, a: i32, b: i32) -> i32
+    requires { ⌜ (mag a < 32768) × (mag b < 32768) ⌝ }
+    ensures { λ z. ⌜ z ≡ applyBinary half16 (binaryOf code) a b ⌝ }
+{
+    match code {
+        17 => of_bool((a != 0) & (b != 0)),
+        18 => of_bool((a != 0) | (b != 0)),
+        20 => plus(HALF, a, b),
+        21 => minus(HALF, a, b),
+        22 => times(HALF, a, b),
+        23 => quotient(HALF, a, b),
+        24 => remainder(HALF, a, b),
+        25 => of_bool(a == b),
+        26 => of_bool(a < b),
+        _ => of_bool(a <= b),
+    }
+}
+
+// The value of an expression; and, or evaluate both operands.
+pub fn eval(image: &[u8], rows: u16, r: u16, store: &[i32]) -> Value
+    requires { ⌜ Runs expression (now image) rows r (now store) ⌝ }
+    ensures { λ v. ⌜ v ≡ eval (tablesOf (now (image .entry))) (expressionAt (tablesOf (now (image .entry))) r) (now (store .entry)) ⌝ }
+{
+    let w = row(image, rows, r);
+    let code = w.code;
+    match code {
+        1 => value(store, w.a),
+        2 => Value::Is(constant(w.a, w.b)),
+        16 | 19 => match eval(image, rows, w.a, store) {
+            Value::Is(a) => Value::Is(unary(code, a)),
+            Value::Unknown => Value::Unknown,
+        },
+        _ => match eval(image, rows, w.a, store) {
+            Value::Is(a) => match eval(image, rows, w.b, store) {
+                Value::Is(b) => Value::Is(binary(code, a, b)),
+                Value::Unknown => Value::Unknown,
+            },
+            Value::Unknown => Value::Unknown,
+        },
+    }
+}
+
+// A condition's value.
+pub fn test(image: &[u8], rows: u16, r: u16, store: &[i32]) -> Tested
+    requires { ⌜ Runs expression (now image) rows r (now store) ⌝ }
+    ensures { λ v. ⌜ v ≡ test (tablesOf (now (image .entry))) (expressionAt (tablesOf (now (image .entry))) r) (now (store .entry)) ⌝ }
+{
+    match eval(image, rows, r, store) {
+        Value::Is(a) => { if a == 0 { Tested::Fails } else { Tested::Holds } }
+        Value::Unknown => Tested::Unsure,
+    }
+}

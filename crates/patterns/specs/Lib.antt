@@ -1,0 +1,3 @@
+pub mod Bound
+pub mod Finding
+pub mod Matching
