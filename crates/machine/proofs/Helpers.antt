@@ -1,15 +1,15 @@
 -- The ways of the loops' helpers: a unit for a further test, V := V + 1, V <= high. Assumes nothing.
-use mathlib.Core.{Path._≡_, Path.refl, Path.sym, Path.ap, Path._∙_, Bool.Bool, Bool.true, Bool.false, Bool.cond, List.List, List.[], List._∷_}
+use mathlib.Core.{Path._≡_, Path.sym, Path.ap, Path._∙_, Bool.Bool, Bool.true, Bool.false, List.List}
 use Prim.Native.Nat.{ℕ, _-_, _^_, _<_}
 use native.Mathlib.Omega.{arith}
 use lib.{IntN.ℤ, IntN.pos, ListN.getD, ListN.set, Signed.mag, Signed.leZ}
 use Rattle.model.specs.declared.{Refusal.Refusal, Refusal.the-variants.Undefined, Refusal.the-variants.BudgetSpent, Value.Value, Value.the-variants.Is, Value.the-variants.Unknown, Tested.the-variants.Holds, Tested.the-variants.Fails, Tested.the-variants.Unsure, Outcome.the-variants.Ends, Outcome.the-variants.Stops}
 use Rattle.model.specs.Answers.{row, variable}
 use Rattle.model.specs.Values.{half16, mark, isZero, ofBool, plus}
-use Rattle.model.specs.Image.{Tables, none, int}
+use Rattle.model.specs.Image.{Tables, int}
 use Rattle.model.specs.Rows.{Binary, arithmetic, Plus, comparison, AtMost as isAtMost}
-use Rattle.model.specs.Trees.{Exp, var, const, binary}
-use Rattle.model.specs.Run.{slot, store, defined, applyBinary, eval, test, St, Res, gives, stored, andThen, charge, valued, storing, assigning, atMostHigh, onward}
+use Rattle.model.specs.Trees.{var, const, binary}
+use Rattle.model.specs.Run.{slot, store, defined, applyBinary, eval, test, gives, storing}
 use Rattle.model.proofs.Run.{charge-spent, charge-some, then-ends, valued-is, valued-unknown}
 use Rattle.values.specs.Range.{BothInRange}
 use Rattle.values.proofs.Held.{held, held-is}
@@ -19,12 +19,9 @@ use Rattle.actions.specs.State.{stateOf, resultOf}
 use Rattle.machine.specs.Running.{Turned, SlotOf, Onward, AtMost}
 use Rattle.machine.proofs.Ways.{ran, answered, then-over}
 
--- ---- a refusal by whether something was said
-pub spoken-so : {q : Ran} {run : Run} (a b : Refusal) → run .spoken ≡ true → q ≡ ran (Stops a) run → q ≡ ran (Stops (cond (run .spoken) a b)) run
-spoken-so {run = run} a b e f = f ∙ ap (λ (c : Bool). ran (Stops (cond c a b)) run) (sym e)
-
-pub quiet-so : {q : Ran} {run : Run} (a b : Refusal) → run .spoken ≡ false → q ≡ ran (Stops b) run → q ≡ ran (Stops (cond (run .spoken) a b)) run
-quiet-so {run = run} a b e f = f ∙ ap (λ (c : Bool). ran (Stops (cond c a b)) run) (sym e)
+-- ---- a refusal
+pub stopped-as : {q : Ran} {y z : Refusal} (run : Run) → y ≡ z → q ≡ ran (Stops y) run → q ≡ ran (Stops z) run
+stopped-as run e f = f ∙ ap (λ (u : Refusal). ran (Stops u) run) e
 
 -- ---- a unit for a further test
 module _ (r : ℕ) {q p : Ran} where

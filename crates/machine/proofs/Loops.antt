@@ -1,20 +1,20 @@
 -- The ways of a while and of a for, from their first test or from any later one. Assumes nothing.
-use mathlib.Core.{Path._≡_, Path.refl, Path.sym, Path.ap, Path._∙_, Path.subst, Bool.Bool, Bool.true, Bool.false, List.List, List.[], List._∷_}
-use Prim.Native.Nat.{ℕ, zero, suc, _+_, _-_, _≤_, _<_}
+use mathlib.Core.{Path._≡_, Path.refl, Path.sym, Path.ap, Path._∙_, Path.subst, List.List}
+use Prim.Native.Nat.{ℕ, zero, suc, _-_, _≤_, _<_}
 use native.Mathlib.Omega.{arith}
-use lib.{IntN.ℤ, IntN.pos, ListN.length, ListN.getD, ListN.set, ListN.length-set, Signed.mag}
+use lib.{IntN.ℤ, IntN.pos, ListN.length, ListN.set, Signed.mag}
 use borrow.Author.Tests.{ltb-true}
-use Rattle.model.specs.declared.{Fields.Fields, Image.Image, State.State, Variable.Variable, Value.Value, Value.the-variants.Is, Value.the-variants.Unknown, Tested.Tested, Tested.the-variants.Holds, Tested.the-variants.Fails, Tested.the-variants.Unsure, Refusal.Refusal, Refusal.the-variants.Undefined, Refusal.the-variants.BudgetSpent, Outcome.Outcome, Outcome.the-variants.Ends, Outcome.the-variants.Jumps, Outcome.the-variants.Stops}
+use Rattle.model.specs.declared.{Fields.Fields, Image.Image, State.State, Variable.Variable, Value.the-variants.Is, Tested.Tested, Tested.the-variants.Holds, Tested.the-variants.Fails, Tested.the-variants.Unsure, Refusal.Refusal, Refusal.the-variants.Undefined, Refusal.the-variants.BudgetSpent, Outcome.Outcome, Outcome.the-variants.Ends, Outcome.the-variants.Jumps, Outcome.the-variants.Stops}
 use Rattle.model.specs.Answers.{row, variable}
 use Rattle.model.specs.Bytes.{signed}
-use Rattle.model.specs.Values.{half16, mark, ofSize}
-use Rattle.model.specs.Image.{Tables, none, int, tablesOf, fieldsOf, sizeOf, typeOf}
+use Rattle.model.specs.Values.{half16}
+use Rattle.model.specs.Image.{Tables, none, int, tablesOf, fieldsOf, typeOf}
 use Rattle.model.specs.Rows.{expression, range, arithmetic, Plus}
 use Rattle.model.specs.Trees.{Exp, var, const, binary, Action}
 use Rattle.model.specs.Decode.{expressionAt, forOf, actionAt}
-use Rattle.model.specs.Run.{slot, store, defined, eval, test, St, Res, gives, stored, charge, andThen, valued, storing, assigning, looping, atMostHigh, toLow, onward, exec, execAct}
-use Rattle.model.proofs.Rows.{Row, row-is, is-kind}
-use Rattle.model.proofs.Run.{paid, charge-spent, charge-some, charge-rule, then-ends, then-stops, then-rule, then-cong, valued-rule, looping-holds, looping-fails, looping-unsure, exec-left, turn-left}
+use Rattle.model.specs.Run.{slot, store, defined, eval, test, St, Res, gives, stored, charge, andThen, valued, storing, assigning, looping, atMostHigh, onward, exec, execAct}
+use Rattle.model.proofs.Rows.{row-is, is-kind}
+use Rattle.model.proofs.Run.{charge-spent, charge-some, charge-rule, then-ends, then-stops, then-rule, valued-rule, looping-holds, looping-fails, looping-unsure, exec-left, turn-left}
 use Rattle.model.proofs.Bytes.{signed-in}
 use Rattle.image.proofs.Laid.{half-is}
 use Rattle.demands.specs.Stores.{TypedStore}
@@ -28,7 +28,7 @@ use Rattle.expressions.specs.Ready.{Runs, RowFrom}
 use Rattle.expressions.proofs.Ways.{all, forms, row-from, value-small}
 use Rattle.actions.specs.declared.{Run.Run, Ran.Ran}
 use Rattle.actions.specs.State.{stateOf, resultOf}
-use Rattle.machine.specs.Running.{Running, RunningLoop, RunningFor, Turned, SlotOf, Onward, AtMost}
+use Rattle.machine.specs.Running.{RunningLoop, RunningFor, Turned, SlotOf, Onward, AtMost}
 use Rattle.machine.proofs.Parts.{moved}
 use Rattle.machine.proofs.Ways.{ran, answered, then-over, ends-typed}
 
@@ -162,12 +162,13 @@ module _ {s : List ℕ} {i : Image} {r e a : ℕ} {script : List ℕ} {m₀ valu
       pub while-more : p .out ≡ Ends → length n ≡ length m → length vs ≡ length values → Whiles s i r e a script m₀ values₀ now₀ n vs (p .run)
       while-more o ln lv =
           let ends : q .out ≡ Ends = first-ends (resultOf q n vs) _ (subst (λ (b : Res). b .out ≡ Ends) (turned d while-row n vs refl) o) in
+          let l : p .run .left ≤ now₀ .left = omega (arith, while-less o, w .less) in
           let j = loop-more r while-row (tablesOf s) _ _ (stateOf now m values) (w .fuel) (resultOf p n vs) (w .enough) body-less (sym k ∙ t) (turned d while-row n vs g) o in
           record {
             going = record { body = moved (w .going .body) (ends-typed (w .going .body) script now q n vs g ends) lv; test = w .going .test; row = w .going .row };
             store = ln ∙ w .store;
             buffer = lv ∙ w .buffer;
-            less = omega (arith, while-less o, w .less);
+            less = l;
             fuel = j .0;
             enough = j .1;
             same = j .2 ∙ w .same;
@@ -318,12 +319,13 @@ module _ {s : List ℕ} {i : Image} {r g a : ℕ} {script : List ℕ} {m₀ valu
 
       pub for-more : p .out ≡ Ends → length n' ≡ length m → length vs ≡ length values → Fors s i r g a script m₀ values₀ now₀ n' vs (p .run)
       for-more o ln lv =
+          let d' : p .run .left ≤ now₀ .left = omega (arith, for-less o, h .less) in
           let j = loop-more r for-row (tablesOf s) _ _ (stateOf now m values) (h .fuel) (resultOf p n' vs) (h .enough) turn-body-less (sym k ∙ tests l b) (turned d for-row n' vs moves) o in
           record {
             going = for-moved (h .going) (turn-typed o) lv;
             store = ln ∙ h .store;
             buffer = lv ∙ h .buffer;
-            less = omega (arith, for-less o, h .less);
+            less = d';
             fuel = j .0;
             enough = j .1;
             same = j .2 ∙ h .same;

@@ -1,19 +1,18 @@
 -- What a row's parts are, by its code: rows that the run of its action may run. Assumes nothing.
 use mathlib.Core.Logic.{_⊎_, inl, inr, ⊎-elim}
-use mathlib.Core.{Path._≡_, Path.refl, Path.sym, Path.ap, Path._∙_, Path.subst, Bool.Bool, Bool.true, Bool.false, Bool._&&_, List.List, List.[], List._∷_}
-use Prim.Native.Nat.{ℕ, zero, suc, _+_, _%_, _≤_, _<_}
+use mathlib.Core.{Path._≡_, Path.refl, Path.sym, Path.ap, Path._∙_, Path.subst, Bool.true, List.List}
+use Prim.Native.Nat.{ℕ, suc, _+_, _%_, _≤_, _<_}
 use native.Mathlib.Omega.{arith}
-use lib.{Dec.eqb, IntN.ℤ, ListN.length}
-use borrow.Author.Tests.{eq-eqb, ltb-true}
-use Rattle.model.specs.declared.{Fields.Fields, Image.Image, Outcome.the-variants.Ends}
-use Rattle.model.specs.Answers.{variable}
-use Rattle.model.specs.Image.{Tables, none, int, trailerOf, tablesOf, rowCount, fieldsOf, typeOf}
-use Rattle.model.specs.Rows.{Kind, expression, range, action, branch, arm, ActionRow, isNull, isAssign, isChoose, isReset, isCommunicate, isTo, isThen, isSelect, isCase, isWhile, isFor, Means, anAction, another, codes, lookup, shapeOf, meansAt, isKind, listUpTo, nextOf}
-use Rattle.model.specs.Trees.{Action, Act, Arms, noArm, arm as anArm}
-use Rattle.model.specs.Decode.{expressionAt, listAt, armsOf, growAction, actionAt, actOf}
-use Rattle.model.specs.Typing.{typeOfExp, typeOfPat, armsOfType}
-use Rattle.model.proofs.Rows.{Named, Row, Formed, row-is, is-kind}
-use Rattle.model.proofs.Codes.{codeOf, means, isKnown, known-in, code-of, next-is}
+use lib.{IntN.ℤ, ListN.length}
+use borrow.Author.Tests.{eq-eqb}
+use Rattle.model.specs.declared.{Fields.Fields, Image.Image}
+use Rattle.model.specs.Image.{Tables, none, tablesOf, fieldsOf}
+use Rattle.model.specs.Rows.{Kind, range, action, branch, ActionRow, isNull, isAssign, isChoose, isReset, isCommunicate, isTo, isThen, isSelect, isCase, isWhile, isFor, anAction, codes, lookup, shapeOf, meansAt, listUpTo, nextOf}
+use Rattle.model.specs.Trees.{Arms, noArm, arm as anArm}
+use Rattle.model.specs.Decode.{growAction, actionAt, actOf}
+use Rattle.model.specs.Typing.{typeOfPat, armsOfType}
+use Rattle.model.proofs.Rows.{Named, Row, row-is, is-kind}
+use Rattle.model.proofs.Codes.{codeOf, means, isKnown, known-in, code-of}
 use Rattle.model.proofs.Decode.{actionAt-is}
 use Rattle.image.proofs.Laid.{laid, rows-count}
 use Rattle.demands.specs.Stores.{TypedStore}
@@ -23,8 +22,8 @@ use Rattle.expressions.specs.Ready.{Ready, RowFrom, Runs}
 use Rattle.expressions.proofs.Ways.{located, all, forms, row-from}
 use Rattle.actions.specs.Items.{Items}
 use Rattle.actions.proofs.Listed.{here-row, next-items}
-use Rattle.machine.specs.Running.{Running, RunningList, RunningCase, RunningLoop, RunningFor}
 use Rattle.simple.specs.Simple.{Simple}
+use Rattle.machine.specs.Running.{Running, RunningList, RunningCase, RunningLoop, RunningFor}
 
 -- the store as another that is typed
 pub ready-on : {s : List ℕ} {m n : List ℤ} → Ready s m → TypedStore (tablesOf s) n → Ready s n

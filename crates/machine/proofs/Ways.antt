@@ -1,7 +1,7 @@
 -- The ways of an action's run, of two actions, of a select and of its branches. Assumes nothing.
 use mathlib.Core.Logic.{inl, inr}
 use mathlib.Core.{Path._≡_, Path.refl, Path.sym, Path.ap, Path._∙_, Path.subst, Bool.Bool, Bool.true, Bool.false, Bool.cond, List.List, List.[], List._∷_}
-use Prim.Native.Nat.{ℕ, zero, suc, _+_, _-_, _/_, _%_, _^_, _≤_, _<_}
+use Prim.Native.Nat.{ℕ, suc, _+_, _-_, _/_, _%_, _≤_, _<_}
 use native.Mathlib.Omega.{arith}
 use lib.{IntN.ℤ, IntN.pos, IntN.negsuc, ListN.length, Signed.mag, Signed.ltZ}
 use borrow.Author.Tests.{ltb-true}
@@ -15,7 +15,7 @@ use Rattle.model.specs.Image.{Tables, none, tablesOf, fieldsOf}
 use Rattle.model.specs.Rows.{ActionRow, isThen, isSelect, isCase, isWhile, isFor, action, branch, another, anAction, meansAt, nextOf}
 use Rattle.model.specs.Trees.{Action, at, Act, select, case, Branches, noBranch, branch as aBranch}
 use Rattle.model.specs.Decode.{expressionAt, listAt, branchesOf, armsOf, forOf, growAction, actionAt, actOf}
-use Rattle.model.specs.Run.{Label, ε, on, St, Res, gives, charge, andThen, reading, blockedAt, blocked, looping, exec, execAct, execBranch}
+use Rattle.model.specs.Run.{ε, on, St, Res, gives, charge, andThen, reading, blockedAt, blocked, looping, exec, execAct, execBranch}
 use Rattle.model.proofs.Rows.{Row, row-is, is-kind}
 use Rattle.model.proofs.Codes.{next-is}
 use Rattle.model.proofs.Decode.{actionAt-step, listAt-none, listAt-step}
@@ -24,12 +24,11 @@ use Rattle.demands.specs.Stores.{TypedStore}
 use Rattle.demands.proofs.Hoare.{Shown, shown-ends}
 use Rattle.demands.proofs.Kept.{Kept, kept}
 use Rattle.demands.proofs.GoodRows.{good-action}
-use Rattle.expressions.specs.Ready.{Runs}
 use Rattle.expressions.proofs.Ways.{all, forms}
 use Rattle.actions.specs.declared.{Run.Run, Ran.Ran}
-use Rattle.actions.specs.State.{labelOf, stateOf, resultOf}
+use Rattle.actions.specs.State.{stateOf, resultOf}
 use Rattle.machine.specs.Running.{Running, RunningList}
-use Rattle.machine.proofs.Parts.{row-small, moved, first-runs, rest-list, tree-as, is-then, is-select, is-case, is-while, is-for}
+use Rattle.machine.proofs.Parts.{row-small, first-runs, rest-list, tree-as, is-then, is-select, is-case, is-while, is-for}
 
 abbrev pub ran : Outcome → Run → Ran
 ran o run = record { out = o; run = run }

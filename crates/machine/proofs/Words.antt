@@ -5,9 +5,9 @@ use mathlib.Core.{Path._≡_, Path.refl, Path.sym, Path.subst, Bool.true, List.L
 use Prim.Native.Nat.{ℕ, zero, suc, _+_, _-_, _*_, _≤_, _<_}
 use native.Mathlib.Omega.{arith}
 use lib.{IntN.ℤ, IntN.pos, IntN.negsuc, ListN.length, ListN.length-map}
-use Rattle.model.specs.declared.{Gate.Gate}
+use Rattle.model.specs.declared.{Gate.Gate, Image.Image}
 use Rattle.model.specs.Bytes.{wordAt}
-use Rattle.model.specs.Image.{Tables, none, fieldsOf}
+use Rattle.model.specs.Image.{Tables, none, tablesOf, fieldsOf}
 use Rattle.model.specs.Rows.{Kind, offer, action, branch, arm, another, ActionRow, isNull, isAssign, isChoose, isReset, isCommunicate, isTo, isThen, isSelect, isCase, isWhile, isFor, anAction, meansAt, isKind, listUpTo}
 use Rattle.model.specs.Trees.{Exp, Offer, emit, receive, Gets, OfType, someBranch, Action, at, Act, null, assign, choose, reset, communicate, to, then, select, case, while, for, Branches, noBranch, branch as aBranch, Arms, noArm, arm as anArm}
 use Rattle.model.specs.Decode.{listAt, branchesOf, armsOf, growAction, actionAt}
@@ -19,6 +19,11 @@ use Rattle.model.proofs.Decode.{actionAt-is, Listed, no-more, one-row, listAt-n
 use Rattle.model.proofs.Run.{paid, heard, if-rule, match-rule, charge-rule, then-rule, reading-rule, readingOf-rule, valued-rule, tested-rule, looping-rule, exec-left}
 use Rattle.demands.proofs.Whole.{Whole}
 use Rattle.demands.proofs.GoodRows.{short-list}
+use Rattle.image.proofs.Laid.{laid, rows-count}
+use Rattle.expressions.proofs.Ways.{located, all}
+use Rattle.actions.specs.declared.{Run.Run, Ran.Ran}
+use Rattle.actions.specs.State.{stateOf, resultOf}
+use Rattle.machine.specs.Running.{Running}
 
 -- every action is a row's, and reads eight words at most of its own
 unfoldable mutual
@@ -189,3 +194,12 @@ module _ (x : Tables) (w : Whole x) (few : length (x .rows) < none) where
 
   pub reads-action : (r : ℕ) → isKind x action r ≡ true → Reads (actionAt x r)
   reads-action r k = reads-by (suc r) r (omega arith) k
+
+-- what the run of a row's action has read
+pub words-of : {s : List ℕ} {i : Image} {r : ℕ} {m values : List ℤ} → Running action s i r m values → (script : List ℕ) (run : Run) (q : Ran) (n vs : List ℤ)
+    → resultOf q n vs ≡ exec (tablesOf s) (actionAt (tablesOf s) r) script (stateOf run m values) → q .run .words ≤ run .words + 8 * (run .left - q .run .left)
+words-of {s} {r = r} {m = m} {values = values} h script run q n vs e =
+    let x = tablesOf s in
+    let few : length (x .rows) < none = omega (arith, rows-count (located (h .ready)), laid (located (h .ready)) .rowsMost) in
+    subst (λ (p : Res). p .st .words ≤ run .words + 8 * (run .left - p .st .left)) (sym e)
+    (exec-words x (actionAt x r) script (stateOf run m values) (reads-action x (all (h .ready)) few r (h .kind)))

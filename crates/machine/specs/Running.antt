@@ -12,7 +12,7 @@ use Rattle.model.specs.Typing.{typeOfExp, armsOfType}
 use Rattle.model.specs.Run.{test, gives, charge, andThen, assigning, atMostHigh, onward}
 use Rattle.expressions.specs.Operators.{valueOf}
 use Rattle.expressions.specs.Ready.{Ready}
-use Rattle.actions.specs.declared.{Ran.Ran}
+use Rattle.actions.specs.declared.Ran.{Ran}
 use Rattle.actions.specs.State.{resultOf}
 use Rattle.patterns.specs.Finding.{Finds}
 

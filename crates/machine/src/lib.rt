@@ -2,20 +2,22 @@
 // holds lead into each other.
 ghost use mathlib.Core.Path.{_≡_};
 ghost use mathlib.Core.Bool.{cond};
-ghost use Prim.Native.Nat.{suc, _+_, _-_, _^_, _≤_, _<_};
+ghost use Prim.Native.Nat.{suc, _+_, _-_, _≤_, _<_};
 ghost use lib.IntN.{pos};
 ghost use lib.ListN.{length};
 ghost use Rattle.model.specs.declared.{Refusal.the-variants.Blocked, Refusal.the-variants.BlockedSpoken, Outcome.the-variants.Ends, Outcome.the-variants.Stops};
 ghost use Rattle.model.specs.Answers.{row};
 ghost use Rattle.model.specs.Image.{tablesOf, fieldsOf};
 ghost use Rattle.model.specs.Rows.{action, branch};
-ghost use Rattle.model.specs.Decode.{actionAt, actOf, expressionAt, listAt, branchesOf, armsOf, forOf};
+ghost use Rattle.model.specs.Decode.{actionAt, expressionAt, listAt, branchesOf, armsOf, forOf};
 ghost use Rattle.model.specs.Trees.{select, case};
 ghost use Rattle.model.specs.Run.{andThen, looping, exec, execAct, execBranch, execArms};
 ghost use Rattle.actions.specs.State.{stateOf, resultOf};
 ghost use Rattle.machine.specs.Running.{Running, RunningList, RunningCase, RunningArms, RunningLoop, RunningFor, SlotOf, Turned, Onward, AtMost};
 use actions::Ran;
 use actions::Run;
+use actions::at_word;
+use actions::blocked_at;
 use expressions::eval;
 use expressions::row;
 use expressions::test;
@@ -40,9 +42,6 @@ const NONE: u16 = 65535;
 // Half the number of int's values.
 const HALF: u16 = 32768;
 
-// The mark of an undefined variable.
-const UNDEFINED: i32 = 65536;
-
 fn stopped(y: Refusal, run: Run) -> Ran
     ensures { λ q. ⌜ q ≡ record { out = Stops y; run = run } ⌝ }
 {
@@ -65,10 +64,7 @@ fn ended(run: Run) -> Ran
 fn blocked(r: u16, run: Run) -> Ran
     ensures { λ q. ⌜ q ≡ record { out = Stops (cond (run .spoken) (BlockedSpoken (row r)) (Blocked (row r))); run = run } ⌝ }
 {
-    if run.spoken {
-        return stopped(Refusal::BlockedSpoken(Row(r)), run);
-    }
-    stopped(Refusal::Blocked(Row(r)), run)
+    stopped(blocked_at(r, run.spoken), run)
 }
 
 // One unit less.
@@ -79,20 +75,6 @@ fn charged(run: Run) -> Run
     Run {
         words: run.words,
         left: run.left - 1,
-        spoken: run.spoken,
-        gate: run.gate,
-        count: run.count,
-    }
-}
-
-// One word more.
-fn heard(run: Run) -> Run
-    requires { ⌜ run .words + 1 < 2 ^ 64 ⌝ }
-    ensures { λ r. ⌜ r ≡ record { words = run .words + 1; left = run .left; spoken = run .spoken; gate = run .gate; count = run .count } ⌝ }
-{
-    Run {
-        words: run.words + 1,
-        left: run.left,
         spoken: run.spoken,
         gate: run.gate,
         count: run.count,
@@ -222,10 +204,11 @@ fn run_select(
         return stopped(Refusal::ScriptEnded(Row(r)), run);
     }
     let z = word(script, run.words);
+    let next = at_word(run, run.words + 1);
     if z < 0 {
-        return stopped(Refusal::WordOutOfRange(Row(r)), heard(run));
+        return stopped(Refusal::WordOutOfRange(Row(r)), next);
     }
-    run_branches(image, i, r, a, size(z), store, script, values, heard(run))
+    run_branches(image, i, r, a, size(z), store, script, values, next)
 }
 
 // Branch number n, 0 is the first.
@@ -319,23 +302,15 @@ fn run_while(
     let mut now = run;
     loop {
         match test(image, i.rows, e, store) {
-            Tested::Fails => {
-                return ended(now);
-            }
-            Tested::Unsure => {
-                return stopped(Refusal::Undefined(Row(r)), now);
-            }
+            Tested::Fails => return ended(now),
+            Tested::Unsure => return stopped(Refusal::Undefined(Row(r)), now),
             Tested::Holds => {}
         }
         let q = again(r, run_action(image, i, a, store, script, values, now));
         let out = q.out;
         match out {
-            Outcome::Ends => {
-                now = q.run;
-            }
-            _ => {
-                return q;
-            }
+            Outcome::Ends => now = q.run,
+            _ => return q,
         }
     }
 }
@@ -362,24 +337,16 @@ fn run_for(
     let mut now = run;
     loop {
         match at_most(store, v, high) {
-            Tested::Fails => {
-                return ended(now);
-            }
-            Tested::Unsure => {
-                return stopped(Refusal::Undefined(Row(r)), now);
-            }
+            Tested::Fails => return ended(now),
+            Tested::Unsure => return stopped(Refusal::Undefined(Row(r)), now),
             Tested::Holds => {}
         }
         let p = run_action(image, i, a, store, script, values, now);
         let q = again(r, onward(r, v, p, store));
         let out = q.out;
         match out {
-            Outcome::Ends => {
-                now = q.run;
-            }
-            _ => {
-                return q;
-            }
+            Outcome::Ends => now = q.run,
+            _ => return q,
         }
     }
 }

@@ -1,5 +1,5 @@
-use mathlib.Core.Path.{_≡_, refl, sym, ap, _∙_}
-use Prim.Native.Nat.{ℕ, suc, _+_, _*_, _%_, _<_}
+use mathlib.Core.Path.{_≡_, refl, ap, _∙_}
+use Prim.Native.Nat.{ℕ, _+_, _*_, _%_, _<_}
 use native.Mathlib.Omega.{arith}
 use borrow.Author.Needs.{needs}
 use lib.{IntN.pos, ListN.length, ListN.length-set}
@@ -40,6 +40,7 @@ use Rattle.machine.proofs.+run_action+run_arms+run_both+run_branches+ru
 use Rattle.machine.proofs.run_while.Reads as run-while
 use Rattle.machine.proofs.run_while.Kinds as run-while-kinds
 use Rattle.machine.proofs.+run_action+run_arms+run_both+run_branches+run_case+run_for+run_select+run_while.Lts-run_while as run-while-lts
+use Rattle.actions.proofs.at_word.Reads as at-word-reads
 use Rattle.expressions.proofs.eval.Reads as eval-reads
 use Rattle.expressions.proofs.row.Reads as row-reads
 use Rattle.expressions.proofs.test.Reads as test-reads
@@ -48,20 +49,15 @@ use Rattle.machine.proofs.at_most.Reads as at-most-reads
 use Rattle.machine.proofs.blocked.Reads as blocked-reads
 use Rattle.machine.proofs.charged.Reads as charged-reads
 use Rattle.machine.proofs.ended.Reads as ended-reads
-use Rattle.patterns.proofs.find_arm.Reads as find-arm-reads
-use Rattle.machine.proofs.heard.Reads as heard-reads
 use Rattle.machine.proofs.onward.Reads as onward-reads
-use Rattle.simple.proofs.run_simple.Reads as run-simple-reads
 use Rattle.machine.proofs.stopped.Reads as stopped-reads
+use Rattle.patterns.proofs.find_arm.Reads as find-arm-reads
+use Rattle.simple.proofs.run_simple.Reads as run-simple-reads
 use Rattle.values.proofs.signed.Reads as signed-reads
 use Rattle.values.proofs.size.Reads as size-reads
 use Rattle.words.proofs.word.Reads as word-reads
-use Rattle.machine.proofs.+run_action+run_arms+run_both+run_branches+run_case+run_for+run_select+run_while.{
-  statement,
-}
-use Rattle.machine.proofs.+run_action+run_arms+run_both+run_branches+run_case+run_for+run_select+run_while.Tie.{
-  close,
-}
+use Rattle.machine.proofs.+run_action+run_arms+run_both+run_branches+run_case+run_for+run_select+run_while.{statement}
+use Rattle.machine.proofs.+run_action+run_arms+run_both+run_branches+run_case+run_for+run_select+run_while.Tie.{close}
 
 abbrev μ-run-action : Measures 4 run-action-kinds.ps ℕ
 μ-run-action κs a =
@@ -176,7 +172,7 @@ abbrev run-for-calls : ℕ → run-for-lts.Claims
 run-for-calls t = (row-reads.Asked, row-reads.Learnt, signed-reads.Asked, signed-reads.Learnt, at-most-reads.Asked, at-most-reads.Learnt, ended-reads.Asked, ended-reads.Learnt, stopped-reads.Asked, stopped-reads.Learnt, run-action-below t, run-action.Post, onward-reads.Asked, onward-reads.Learnt, again-reads.Asked, again-reads.Learnt)
 
 abbrev run-select-calls : ℕ → run-select-lts.Claims
-run-select-calls t = (blocked-reads.Asked, blocked-reads.Learnt, stopped-reads.Asked, stopped-reads.Learnt, word-reads.Asked, word-reads.Learnt, heard-reads.Asked, heard-reads.Learnt, size-reads.Asked, size-reads.Learnt, run-branches-below t, run-branches.Post)
+run-select-calls t = (blocked-reads.Asked, blocked-reads.Learnt, stopped-reads.Asked, stopped-reads.Learnt, word-reads.Asked, word-reads.Learnt, at-word-reads.Asked, at-word-reads.Learnt, size-reads.Asked, size-reads.Learnt, run-branches-below t, run-branches.Post)
 
 abbrev run-while-calls : ℕ → run-while-lts.Claims
 run-while-calls t = (test-reads.Asked, test-reads.Learnt, ended-reads.Asked, ended-reads.Learnt, stopped-reads.Asked, stopped-reads.Learnt, run-action-below t, run-action.Post, again-reads.Asked, again-reads.Learnt)
@@ -630,9 +626,13 @@ run-select-word-requires : (t : ℕ) → run-select-lts.Need-word-requires (run-
 run-select-word-requires t c κs =
     omega (arith, c .if2 .left)
 
-run-select-heard-requires : (t : ℕ) → run-select-lts.Need-heard-requires (run-select-calls t) (run-select-at t) run-select.Post
-run-select-heard-requires t c κs =
+run-select-add-at-word : (t : ℕ) → run-select-lts.Need-add-at-word (run-select-calls t) (run-select-at t) run-select.Post
+run-select-add-at-word t c =
     omega (arith, c .before .before .if2 .left)
+
+run-select-at-word-requires : (t : ℕ) → run-select-lts.Need-at-word-requires (run-select-calls t) (run-select-at t) run-select.Post
+run-select-at-word-requires t c κs =
+    tt
 
 run-select-stopped-requires-2 : (t : ℕ) → run-select-lts.Need-stopped-requires-2 (run-select-calls t) (run-select-at t) run-select.Post
 run-select-stopped-requires-2 t c κs =
@@ -640,19 +640,15 @@ run-select-stopped-requires-2 t c κs =
 
 run-select-returns-3 : (t : ℕ) → run-select-lts.Need-returns-3 (run-select-calls t) (run-select-at t) run-select.Post
 run-select-returns-3 t c =
-    select-negative (c .before .before .before .before .before .before .before .before .before .pre .1) _ _ _ (c .before .before .before .before .before .before .if1 .left) (omega (arith, c .before .before .before .before .if2 .left)) (held-is (c .before .before .before .word .result) (c .before .before .before .word .ok) ∙ c .before .before .before .word .ensures) (c .before .heard .ensures) (c .before .before .if3 .taken) (c .stopped2 .ensures)
+    select-negative (c .before .before .before .before .before .before .before .before .before .before .pre .1) _ _ _ (c .before .before .before .before .before .before .before .if1 .left) (omega (arith, c .before .before .before .before .before .if2 .left)) (held-is (c .before .before .before .before .word .result) (c .before .before .before .before .word .ok) ∙ c .before .before .before .before .word .ensures) (c .before .before .at-word .ensures) (c .before .if3 .taken) (c .stopped2 .ensures)
 
 run-select-size-requires : (t : ℕ) → run-select-lts.Need-size-requires (run-select-calls t) (run-select-at t) run-select.Post
 run-select-size-requires t c κs =
     search needs
 
-run-select-heard-requires-2 : (t : ℕ) → run-select-lts.Need-heard-requires-2 (run-select-calls t) (run-select-at t) run-select.Post
-run-select-heard-requires-2 t c κs =
-    omega (arith, c .before .before .before .before .before .if2 .left)
-
 run-select-run-branches-requires : (t : ℕ) → run-select-lts.Need-run-branches-requires (run-select-calls t) (run-select-at t) run-select.Post
 run-select-run-branches-requires t c κs =
-    (omega (arith, c .before .before .before .before .before .before .before .before .before .before .before .pre .0, heard-left (c .before .before .before .before .before .before .before .before .before .before .before .args .run) (c .heard2 .ensures)), c .before .before .before .before .before .before .before .before .before .before .before .pre .1)
+    (omega (arith, c .before .before .before .before .before .before .before .before .before .before .before .before .pre .0, heard-left (c .before .before .before .before .before .before .before .before .before .before .before .before .args .run) (c .before .before .before .before .at-word .ensures)), c .before .before .before .before .before .before .before .before .before .before .before .before .pre .1)
 
 run-select-same-length : (t : ℕ) → run-select-lts.Need-same-length (run-select-calls t) (run-select-at t) run-select.Post
 run-select-same-length t c =
@@ -664,7 +660,7 @@ run-select-same-length-2 t c =
 
 run-select-returns-4 : (t : ℕ) → run-select-lts.Need-returns-4 (run-select-calls t) (run-select-at t) run-select.Post
 run-select-returns-4 t c =
-    select-branch (c .before .before .before .before .before .before .before .before .before .before .before .before .before .before .pre .1) _ _ _ (c .before .before .before .before .before .before .before .before .before .before .before .if1 .left) (omega (arith, c .before .before .before .before .before .before .before .before .before .if2 .left)) (held-is (c .before .before .before .before .before .before .before .before .word .result) (c .before .before .before .before .before .before .before .before .word .ok) ∙ c .before .before .before .before .before .before .before .before .word .ensures) (c .before .before .before .heard2 .ensures) (c .before .before .before .before .before .before .before .if3 .left) (c .before .before .before .before .before .before .size .ensures) (c .before .before .run-branches .ensures)
+    select-branch (c .before .before .before .before .before .before .before .before .before .before .before .before .before .before .before .pre .1) _ _ _ (c .before .before .before .before .before .before .before .before .before .before .before .before .if1 .left) (omega (arith, c .before .before .before .before .before .before .before .before .before .before .if2 .left)) (held-is (c .before .before .before .before .before .before .before .before .before .word .result) (c .before .before .before .before .before .before .before .before .before .word .ok) ∙ c .before .before .before .before .before .before .before .before .before .word .ensures) (c .before .before .before .before .before .before .before .at-word .ensures) (c .before .before .before .before .before .before .if3 .left) (c .before .before .before .before .before .size .ensures) (c .before .before .run-branches .ensures)
 
 abbrev run-while-Inv-loop : run-while-lts.InvT-loop
 run-while-Inv-loop image i r e a store₀ script values₀ now₀ store values now =
@@ -902,11 +898,11 @@ pub +run-action+run-arms+run-both+run-branches+run-case+run-for+run-select+run-w
     (run-select-stopped-requires t)
     (run-select-returns-2 t)
     (run-select-word-requires t)
-    (run-select-heard-requires t)
+    (run-select-add-at-word t)
+    (run-select-at-word-requires t)
     (run-select-stopped-requires-2 t)
     (run-select-returns-3 t)
     (run-select-size-requires t)
-    (run-select-heard-requires-2 t)
     (run-select-run-branches-requires t)
     (run-select-same-length t)
     (run-select-same-length-2 t)

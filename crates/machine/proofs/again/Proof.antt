@@ -2,11 +2,6 @@ use Rattle.machine.proofs.{Ways.not-ends, Helpers.again-spent, Helpers.
 use borrow.Author.Needs.{needs}
 use Rattle.machine.proofs.again.Statement.{statement}
 use Rattle.machine.proofs.again.Tie as tie
-use Rattle.machine.proofs.again.Reads as reads
-use Rattle.machine.proofs.again.Lts as lts
-use Rattle.machine.proofs.charged.Reads as charged-reads
-use Rattle.machine.proofs.ended.Reads as ended-reads
-use Rattle.machine.proofs.stopped.Reads as stopped-reads
 
 -- src/lib.rt:88:16
 enum-told : tie.Need-enum-told

@@ -2,9 +2,6 @@ use Rattle.machine.proofs.Helpers.{most-unsure, most-holds, most-fails,
 use borrow.Author.Needs.{needs}
 use Rattle.machine.proofs.at_most.Statement.{statement}
 use Rattle.machine.proofs.at_most.Tie as tie
-use Rattle.machine.proofs.at_most.Reads as reads
-use Rattle.machine.proofs.at_most.Lts as lts
-use Rattle.expressions.proofs.value.Reads as value-reads
 
 -- src/lib.rt:120:11
 value-requires : tie.Need-value-requires

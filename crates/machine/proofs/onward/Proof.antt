@@ -6,11 +6,6 @@ use Rattle.machine.proofs.{Ways.not-ends, Helpers.onward-over, Helpers.
 use borrow.Author.Needs.{needs}
 use Rattle.machine.proofs.onward.Statement.{statement}
 use Rattle.machine.proofs.onward.Tie as tie
-use Rattle.machine.proofs.onward.Reads as reads
-use Rattle.machine.proofs.onward.Lts as lts
-use Rattle.expressions.proofs.value.Reads as value-reads
-use Rattle.machine.proofs.stopped.Reads as stopped-reads
-use Rattle.values.proofs.plus.Reads as plus-reads
 
 -- src/lib.rt:104:38
 enum-told : tie.Need-enum-told

@@ -1,0 +1,3 @@
+pub mod Copied
+pub mod Words
+pub mod Told

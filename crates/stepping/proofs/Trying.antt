@@ -1,0 +1,44 @@
+-- The run that a step tries. Assumes nothing.
+use mathlib.Core.{Path._≡_, Path.refl, Path.sym, Path.ap, Path._∙_, Bool.true, Bool.false, List.List}
+use Prim.Native.Nat.{ℕ, _+_, _*_, _≤_, _<_}
+use native.Mathlib.Omega.{arith}
+use lib.{Dec.ltb, IntN.ℤ, ListN.length, ListN.getD}
+use Rattle.model.specs.declared.{Image.Image}
+use Rattle.model.specs.Image.{none, trailerOf, tablesOf}
+use Rattle.model.specs.Rows.{action, isRoot, isKind}
+use Rattle.model.specs.Decode.{actionAt}
+use Rattle.model.specs.Run.{Res, exec}
+use Rattle.model.specs.Calls.{attempt}
+use Rattle.model.proofs.Rows.{both-true}
+use Rattle.model.proofs.Passed.{passed}
+use Rattle.model.proofs.Run.{exec-left}
+use Rattle.image.specs.Located.{StateOf}
+use Rattle.image.proofs.Laid.{states-count, rows-count, laid}
+use Rattle.demands.proofs.Whole.{whole}
+use Rattle.machine.specs.Running.{Running}
+use Rattle.machine.proofs.Words.{exec-words, reads-action}
+use Rattle.actions.specs.declared.{Run.Run, Ran.Ran}
+use Rattle.actions.specs.State.{stateOf, resultOf}
+use Rattle.stepping.specs.Stepping.{Trying}
+use Rattle.stepping.proofs.Slots.{located}
+
+module _ {s : List ℕ} {i : Image} {q : ℕ} {m values : List ℤ} {budget : ℕ} (h : Trying s i q m values budget) where
+  pub state-there : StateOf s i q
+  state-there =
+      let l = located (h .imaged) in
+      record { located = l; inside = omega (arith, h .state, states-count l) }
+
+  pub root : isKind (tablesOf s) action (getD (tablesOf s .states) q none) ≡ true
+  unfolding isRoot
+  root =
+      both-true (ltb (getD (tablesOf s .states) q none) (length (tablesOf s .rows))) _
+      (passed s (h .imaged .passed) .free .roots q (h .state)) .1
+
+  pub runs-there : {r : ℕ} → r ≡ getD (tablesOf s .states) q none → Running action s i r m values
+  runs-there e = record { ready = h .ready; trailer = h .imaged .trailer; kind = rw e root; room = omega (arith, h .room) }
+
+  pub tries : {r : ℕ} {p : Res} (script : List ℕ) → r ≡ getD (tablesOf s .states) q none
+      → p ≡ exec (tablesOf s) (actionAt (tablesOf s) r) script (stateOf (record { words = 0; left = budget; spoken = false; gate = 0; count = 0 }) m values)
+      → p ≡ attempt (tablesOf s) q m script budget
+  unfolding attempt
+  tries script e f = f ∙ ap (λ (k : ℕ). exec (tablesOf s) (actionAt (tablesOf s) k) script (stateOf (record { words = 0; left = budget; spoken = false; gate = 0; count = 0 }) m values)) e
