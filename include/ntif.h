@@ -23,7 +23,11 @@ enum ntif_refusal {
     NTIF_BINDING = 9,          /* binding: the row */
     NTIF_SETS_SHORT = 10,      /* sets buffer shorter than the states: 0 */
     NTIF_INITIALISATION = 11,  /* a variable may be read undefined: the state */
-    NTIF_SPEECH = 12           /* the action may stop after its communication, or communicate twice: the state */
+    NTIF_SPEECH = 12,          /* the action may stop after its communication, or communicate twice: the state */
+    NTIF_STORE_LENGTH = 13,    /* store length not the number of variables: 0 */
+    NTIF_PARAMETER_COUNT = 14, /* wrong number of parameter values: 0 */
+    NTIF_PARAMETER_VALUE = 15, /* parameter value outside its type: the variable */
+    NTIF_CONDITION_FALSE = 16  /* initial condition false: 0 */
 };
 
 /* An answer is 0 where the call succeeds; otherwise it has a refusal's number in bits 0 to 7 and its place from bit 16 on. */
@@ -34,6 +38,12 @@ static inline unsigned ntif_place(uint64_t answer) { return (unsigned)(answer >>
  * accepted, mask s has bit v set if variable v is surely defined on entering state s; masks past the states keep their
  * content. A part mask at the end isn't counted and stays. */
 uint64_t ntif_check(const uint8_t *image, size_t image_length, uint8_t *sets, size_t sets_length);
+
+/* start: 1 to 9, 13 to 16. `params` and `store` are signed little-endian 32-bit words, their lengths in bytes: the parameter
+ * values in variable order, and a word for each variable. Where the automaton starts, the store holds the parameters, every
+ * other variable's word is 65536 (undefined), and the state is 0. A part word at the end isn't counted and stays. */
+uint64_t ntif_start(const uint8_t *image, size_t image_length, const uint8_t *params, size_t params_length, uint8_t *store,
+                    size_t store_length);
 
 #ifdef __cplusplus
 }

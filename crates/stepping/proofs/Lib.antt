@@ -1,3 +1,4 @@
 pub mod Slots
 pub mod Trying
 pub mod Steps
+pub mod Moved

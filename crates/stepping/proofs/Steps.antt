@@ -15,6 +15,7 @@ use Rattle.model.specs.Calls.{imageVerdict, slotFits, stepVerdict, attempt, Ste
 use Rattle.model.proofs.Order.{after-accepted, after-refused, after-both, unless-true, each-all}
 use Rattle.model.proofs.Passed.{passed}
 use Rattle.model.proofs.Run.{exec-left}
+use Rattle.image.specs.Located.{Located}
 use Rattle.image.proofs.Laid.{laid, rows-count, variables-count}
 use Rattle.demands.specs.Statements.{AreBytes}
 use Rattle.demands.specs.Stores.{TypedStore}
@@ -110,6 +111,9 @@ module _ (s : List ℕ) (q : State) (store : List ℤ) (script : List ℕ) (budg
     step-runs g k = k ∙ sym (by-verdict Accepted (verdict-is ∙ after-accepted (imageVerdict s) _ (sym f ∙ e) ∙ g))
 
 -- what is lent and made
+pub located-by : (s : List ℕ) → imageVerdict s ≡ Accepted → Located s (trailerOf s)
+located-by s e = let p = passed s e in record { trailer = refl; long = p .long; marked = p .marked; starts = p .starts }
+
 pub image-long : (s : List ℕ) {v : Verdict} → v ≡ imageVerdict s → v ≡ Accepted → 16 ≤ length s
 unfolding lengthFits
 image-long s f e = omega (arith, leb-true 38 (length s) (both-true (leb 38 (length s)) _ (passed s (sym f ∙ e) .long) .0))

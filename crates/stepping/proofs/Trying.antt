@@ -3,12 +3,12 @@ use mathlib.Core.{Path._≡_, Path.refl, Path.sym, Path.ap, Path._∙_, Bool.tru
 use Prim.Native.Nat.{ℕ, _+_, _*_, _≤_, _<_}
 use native.Mathlib.Omega.{arith}
 use lib.{Dec.ltb, IntN.ℤ, ListN.length, ListN.getD}
-use Rattle.model.specs.declared.{Image.Image}
+use Rattle.model.specs.declared.{Image.Image, Verdict.the-variants.Accepted}
 use Rattle.model.specs.Image.{none, trailerOf, tablesOf}
 use Rattle.model.specs.Rows.{action, isRoot, isKind}
 use Rattle.model.specs.Decode.{actionAt}
 use Rattle.model.specs.Run.{Res, exec}
-use Rattle.model.specs.Calls.{attempt}
+use Rattle.model.specs.Calls.{imageVerdict, attempt}
 use Rattle.model.proofs.Rows.{both-true}
 use Rattle.model.proofs.Passed.{passed}
 use Rattle.model.proofs.Run.{exec-left}
@@ -22,6 +22,12 @@ use Rattle.actions.specs.State.{stateOf, resultOf}
 use Rattle.stepping.specs.Stepping.{Trying}
 use Rattle.stepping.proofs.Slots.{located}
 
+-- a state's row is an action
+pub root-of : (s : List ℕ) → imageVerdict s ≡ Accepted → (q : ℕ) → q < length (tablesOf s .states) → isKind (tablesOf s) action (getD (tablesOf s .states) q none) ≡ true
+unfolding isRoot
+root-of s e q h =
+    both-true (ltb (getD (tablesOf s .states) q none) (length (tablesOf s .rows))) _ (passed s e .free .roots q h) .1
+
 module _ {s : List ℕ} {i : Image} {q : ℕ} {m values : List ℤ} {budget : ℕ} (h : Trying s i q m values budget) where
   pub state-there : StateOf s i q
   state-there =
@@ -29,10 +35,7 @@ module _ {s : List ℕ} {i : Image} {q : ℕ} {m values : List ℤ} {budget : �
       record { located = l; inside = omega (arith, h .state, states-count l) }
 
   pub root : isKind (tablesOf s) action (getD (tablesOf s .states) q none) ≡ true
-  unfolding isRoot
-  root =
-      both-true (ltb (getD (tablesOf s .states) q none) (length (tablesOf s .rows))) _
-      (passed s (h .imaged .passed) .free .roots q (h .state)) .1
+  root = root-of s (h .imaged .passed) q (h .state)
 
   pub runs-there : {r : ℕ} → r ≡ getD (tablesOf s .states) q none → Running action s i r m values
   runs-there e = record { ready = h .ready; trailer = h .imaged .trailer; kind = rw e root; room = omega (arith, h .room) }
