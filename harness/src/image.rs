@@ -22,6 +22,8 @@ pub mod limits {
     pub const VECTOR: u16 = 8;
     /// Rows of a list of branches or arms.
     pub const BRANCHES: u16 = 64;
+    /// Units of a step.
+    pub const BUDGET: u32 = 1_000_000;
 }
 
 /// One row: a code and three fields.

@@ -1,23 +1,33 @@
-//! The command line: `differ`, `bench` and `check FILE`.
+//! The command line: `differ`, `bench`, `stack` and `check FILE`.
 
 #![forbid(unsafe_code)]
 
-use harness::{bench, check, differ, library};
+use harness::calls::{LIBRARY, RUST};
+use harness::{bench, check, differ, library, stack_table};
 use std::process::ExitCode;
 use std::time::Instant;
 
 const HELP: &str = "\
-harness: an independent check of NTIF images against the proved library
+harness: an independent check, start and step of NTIF images against the proved library
 
   harness differ [--seed S] [--cases N] [--first C]
-      run both on N images of seed S (defaults 1 and 1000000), from case C
+      run both checks on N images of seed S (defaults 1 and 1000000), from case C
       (default 0); exit 1 at the first difference, or if 20,000 cases or more
-      leave out an answer, an accepted image of 2,048 rows or one 1,900 deep
+      leave out an answer, an accepted image of 2,048 rows or one 1,900 deep;
+      with the feature `step` then both starts and steps on N such images, and
+      chains of steps of accepted ones; exit 1 too if 100,000 cases or more leave
+      out a number that start or step can give
   harness bench [--rounds R]
-      times of both on accepted images (default 15 rounds)
+      times of both on accepted images (default 15 rounds); start and step of
+      the library only with the feature `step`
+  harness stack
+      bytes of stack that each call needs on the deepest images
   harness check FILE
       what both say of the image in FILE: number and place, or the masks
   harness --help
+
+The environment variable NTIF_LIB names the library's archive when harness is built;
+`--features step` wants one that also exports ntif_start and ntif_step.
 ";
 
 fn main() -> ExitCode {
@@ -30,6 +40,11 @@ fn main() -> ExitCode {
         }
         ["differ", options @ ..] => run_differ(options),
         ["bench", options @ ..] => run_bench(options),
+        ["stack"] => {
+            stack_table::run();
+            Ok(ExitCode::SUCCESS)
+        }
+        ["stack", ..] => Err("stack takes no options".to_string()),
         ["check", file] => run_check(file),
         ["check", ..] => Err("check wants one FILE".to_string()),
         [] => Err("no command given".to_string()),
@@ -69,12 +84,30 @@ fn run_differ(options: &[&str]) -> Result<ExitCode, String> {
             return Ok(ExitCode::FAILURE);
         }
     };
-    let seconds = start.elapsed().as_secs_f64();
-    println!("seed {seed}, {cases} cases from {first}: no difference\n\n{tally}");
-    println!("{seconds:.1} s, {:.0} cases/s", cases as f64 / seconds);
-    let lacks = tally.lacks();
+    println!("check: seed {seed}, {cases} cases from {first}: no difference\n\n{tally}");
+    rate(start, cases, cases);
+    let mut lacks = tally.lacks();
+    if let Some(library) = LIBRARY {
+        let start = Instant::now();
+        let runs = match differ::compare_runs(seed, first, cases, [library, RUST]) {
+            Ok(runs) => runs,
+            Err(trouble) => {
+                println!("{}", trouble.report(seed));
+                return Ok(ExitCode::FAILURE);
+            }
+        };
+        println!("\nstart and step: no difference\n\n{}", runs.table(&tally));
+        rate(start, cases, runs.calls());
+        lacks.extend(runs.lacks());
+    }
     lacks.iter().for_each(|lack| println!("LACKING: {lack}"));
     Ok(if lacks.is_empty() { ExitCode::SUCCESS } else { ExitCode::FAILURE })
+}
+
+fn rate(start: Instant, cases: u64, calls: u64) {
+    let seconds = start.elapsed().as_secs_f64();
+    let [cases, calls] = [cases, calls].map(|count| count as f64 / seconds);
+    println!("{seconds:.1} s, {cases:.0} cases/s, {calls:.0} calls/s");
 }
 
 fn run_bench(options: &[&str]) -> Result<ExitCode, String> {

@@ -1,5 +1,6 @@
 //! Every byte of an image set to every value, and every field to each extreme.
 
+use harness::calls::{LIBRARY, RUST};
 use harness::check::check;
 use harness::differ::decoded;
 use harness::generate::Generator;
@@ -11,9 +12,32 @@ use harness::random::Random;
 fn same(image: &[u8], at: usize) {
     let mut sets = [[0x5A; 512]; 2];
     let [left, right] = &mut sets;
-    let answers = [check(image, left), library::check(image, right)].map(decoded);
+    let answer = check(image, left);
+    let answers = [answer, library::check(image, right)].map(decoded);
     assert_eq!(answers[0], answers[1], "byte {at}: Rust, then the library; {image:02x?}");
     assert_eq!(left, right, "sets, byte {at}; {image:02x?}");
+    same_runs(image, at, answer);
+}
+
+/// Start and step give check's 1–9, and with the feature `step` both sides the same.
+fn same_runs(image: &[u8], at: usize, checked: u64) {
+    let script = [0; 64];
+    let sides = [RUST, LIBRARY.unwrap_or(RUST)];
+    let started = sides.map(|side| {
+        let mut store = [0x5A; 8];
+        ((side.start)(image, &script[..4], &mut store), store)
+    });
+    let stepped = sides.map(|side| {
+        let (mut store, mut label) = ([0; 8], [0x5A; 43]);
+        ((side.step)(image, 1, &mut store, &script, 100, &mut label), store, label)
+    });
+    assert_eq!(started[0], started[1], "start, byte {at}; {image:02x?}");
+    assert_eq!(stepped[0], stepped[1], "step, byte {at}; {image:02x?}");
+    for answer in [started[0].0, stepped[0].0] {
+        let early = |answer: u64| (1..=9).contains(&(answer & 0xFF));
+        assert_eq!(early(answer), early(checked), "1 to 9, byte {at}; {image:02x?}");
+        assert!(!early(answer) || answer == checked, "1 to 9, byte {at}; {image:02x?}");
+    }
 }
 
 fn every_byte(image: &[u8]) {

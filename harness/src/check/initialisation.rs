@@ -4,9 +4,9 @@
 //! other way round. So a set anywhere in a state's action is known from two runs:
 //! one with the state entered with no variable, and one with all of them.
 
-use super::binding::Facts;
-use super::{first_state, Reading, Refusal, Sets, FIRST_ACTION};
+use super::{first_state, Reading, Sets, FIRST_ACTION};
 use crate::image::{Image, Row, NONE};
+use crate::valid::{Facts, Refusal};
 
 /// A set that depends on another one: what it is from none and from all variables.
 #[derive(Clone, Copy, Default)]

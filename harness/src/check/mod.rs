@@ -1,36 +1,14 @@
 //! `check` of 01, written from the documents: linear passes over the rows.
 
-mod binding;
-mod form;
-mod frame;
 mod initialisation;
-mod reading;
 mod speech;
-mod typing;
 
-pub use reading::{Document01, Reading};
+pub use crate::reading::{Document01, Reading};
 
-use crate::image::Image;
+use crate::image::{Image, Row};
+use crate::valid::{with_rows, Facts, Refusal, Rows, Watch};
 use std::cell::RefCell;
-
-/// A number of 01's table and its place.
-#[derive(Clone, Copy, Debug, PartialEq, Eq)]
-pub struct Refusal {
-    pub number: u8,
-    pub place: u16,
-}
-
-impl Refusal {
-    pub fn new(number: u8, place: usize) -> Refusal {
-        let place = place as u16;
-        Refusal { number, place }
-    }
-
-    /// The export's answer (READINGS, "Calls and exports").
-    pub fn word(self) -> u64 {
-        u64::from(self.number) | u64::from(self.place) << 16
-    }
-}
+use std::marker::PhantomData;
 
 /// The masks of an accepted image; only the first `states` of them count.
 pub struct Sets {
@@ -41,12 +19,9 @@ pub struct Sets {
 /// The lowest code of an action; none but branches and arms lie between actions.
 const FIRST_ACTION: u16 = 48;
 
-/// Room for one check.
+/// Room for what only check asks.
 #[derive(Default)]
 struct Room {
-    forms: form::Forms,
-    types: typing::Types,
-    bindings: binding::Bindings,
     ends: initialisation::Ends,
     voices: speech::Voices,
     walk: initialisation::Walk,
@@ -65,8 +40,9 @@ pub fn check(image: &[u8], sets: &mut [u8]) -> u64 {
 /// `check` under a reading of the rules.
 pub fn check_by<R: Reading>(image: &[u8], sets: &mut [u8]) -> u64 {
     let entries = sets.as_chunks_mut::<8>().0;
-    let judged = ROOM.with_borrow_mut(|room| room.judge::<R>(image, entries.len()));
-    match judged {
+    let judge =
+        |rows: &mut Rows| ROOM.with_borrow_mut(|room| room.judge::<R>(rows, image, entries.len()));
+    match with_rows(judge) {
         Err(refusal) => refusal.word(),
         Ok(found) => {
             for (entry, mask) in entries.iter_mut().zip(&found.masks[..found.states]) {
@@ -79,12 +55,15 @@ pub fn check_by<R: Reading>(image: &[u8], sets: &mut [u8]) -> u64 {
 
 impl Room {
     /// The numbers in the order of 01, "Check: 1–12".
-    fn judge<R: Reading>(&mut self, bytes: &[u8], entries: usize) -> Result<Sets, Refusal> {
-        let image = frame::read(bytes)?;
-        self.read_rows::<R>(&image)?;
-        self.forms.judge(&image)?;
-        self.types.judge()?;
-        self.bindings.judge()?;
+    fn judge<R: Reading>(
+        &mut self,
+        rows: &mut Rows,
+        bytes: &[u8],
+        entries: usize,
+    ) -> Result<Sets, Refusal> {
+        let reading = PhantomData::<R>;
+        let mut last = Last { ends: &mut self.ends, voices: &mut self.voices, reading };
+        let image = rows.judge::<R>(bytes, &mut last)?;
         if entries < image.states.len() {
             return Err(Refusal::new(10, 0));
         }
@@ -92,33 +71,29 @@ impl Room {
         if R::SPEECH_BEFORE_INITIALISATION {
             speech?;
         }
-        let facts = &self.bindings.facts;
-        let sets = self.walk.judge::<R>(&image, facts, &self.ends)?;
+        let sets = self.walk.judge::<R>(&image, rows.facts(), &self.ends)?;
         speech.map(|()| sets)
     }
+}
 
-    /// All that a row's children tell of it, in one pass from the lowest row on.
-    fn read_rows<R: Reading>(&mut self, image: &Image) -> Result<(), Refusal> {
-        let rows = image.rows.len();
-        self.forms.clear(rows);
-        self.types.clear(rows);
-        self.bindings.clear(rows);
+/// How actions, branches and arms end: the other rows don't.
+struct Last<'a, R> {
+    ends: &'a mut initialisation::Ends,
+    voices: &'a mut speech::Voices,
+    reading: PhantomData<R>,
+}
+
+impl<R: Reading> Watch for Last<'_, R> {
+    fn begin(&mut self, rows: usize) {
         self.ends.make_room(rows);
         self.voices.make_room(rows);
-        for r in 0..rows {
-            let row = image.row(r);
-            if !self.forms.add::<R>(image, row) {
-                return Err(Refusal::new(5, r));
-            }
-            self.types.add(image, row);
-            self.bindings.add::<R>(image, row);
-            // Only actions, branches and arms end somewhere.
-            if row.code >= FIRST_ACTION {
-                self.ends.put::<R>(image, &self.bindings.facts, r, row);
-                self.voices.put::<R>(image, r, row);
-            }
+    }
+
+    fn row(&mut self, image: &Image, facts: &[Facts], r: usize, row: Row) {
+        if row.code >= FIRST_ACTION {
+            self.ends.put::<R>(image, facts, r, row);
+            self.voices.put::<R>(image, r, row);
         }
-        Ok(())
     }
 }
 

@@ -1,7 +1,8 @@
 //! Refusal 12: speech (report, Figures 9 and 10; 01, "Speech").
 
-use super::{first_state, Reading, Refusal};
+use super::{first_state, Reading};
 use crate::image::{Image, Row, NONE};
+use crate::valid::Refusal;
 
 /// What an action does, entered quiet and entered spoken.
 #[derive(Clone, Copy, Default)]

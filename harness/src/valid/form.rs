@@ -1,7 +1,8 @@
 //! Refusals 5–7: each row by itself, the rows named from outside, and namings.
 
-use super::{Reading, Refusal};
+use super::Refusal;
 use crate::image::{limits, Image, Row, NONE};
+use crate::reading::Reading;
 
 /// What a code stands for (01, "The image"); a next field wants its own kind.
 #[derive(Clone, Copy, PartialEq, Eq)]

@@ -1,12 +1,10 @@
-//! Two checkers on the same cases: the answers and every lent byte are compared.
+//! Two checkers on the same images: the answers and every lent byte are compared.
 
-use crate::check::Refusal;
+use super::report::{decoded, hex, save};
 use crate::generate::{depth, Generator};
 use crate::image::{number, Row, TRAILER};
 use crate::random::Random;
 use std::fmt;
-use std::io;
-use std::path::PathBuf;
 
 /// Cases from which on every answer must have occurred.
 pub const FULL: u64 = 20_000;
@@ -102,18 +100,6 @@ fn name(answer: u64) -> String {
     }
 }
 
-/// An answer in words.
-pub fn decoded(answer: u64) -> String {
-    match (answer, answer & 0xFF) {
-        (0, _) => "accepted".to_string(),
-        (_, 1..=12) if answer >> 32 == 0 && answer >> 8 & 0xFF == 0 => {
-            let refusal = Refusal::new((answer & 0xFF) as u8, (answer >> 16) as usize);
-            format!("{} at {}", refusal.number, refusal.place)
-        }
-        _ => format!("no answer of 01: {answer:#x}"),
-    }
-}
-
 /// The number of states that an image's trailer tells of, right or not.
 pub fn states(image: &[u8]) -> usize {
     let Some(trailer) = image.len().checked_sub(TRAILER) else {
@@ -202,25 +188,9 @@ pub fn compare(
     Ok(tally)
 }
 
-/// Bytes as lines of hex, 32 to a line.
-fn hex(bytes: &[u8]) -> String {
-    let line = |chunk: &[u8]| chunk.iter().map(|b| format!("{b:02x}")).collect::<String>();
-    bytes.chunks(32).map(|chunk| line(chunk) + "\n").collect()
-}
-
 impl Difference {
-    /// Writes the image to the temp folder and says where.
-    fn save(&self, seed: u64) -> io::Result<PathBuf> {
-        let path = std::env::temp_dir().join(format!("harness-{seed}-{}.hex", self.case));
-        std::fs::write(&path, hex(&self.image))?;
-        Ok(path)
-    }
-
     pub fn report(&self, seed: u64) -> String {
-        let path = match self.save(seed) {
-            Ok(path) => path.display().to_string(),
-            Err(error) => format!("not saved: {error}"),
-        };
+        let path = save(&self.image, seed, self.case);
         let sets = [&self.old, &self.sets[0], &self.sets[1]].map(|bytes| hex(bytes));
         format!(
             "DIFFERENCE at seed {seed}, case {}\nlibrary: {}\nRust: {}\nimage changed: {}\n\

@@ -35,6 +35,11 @@ impl Types {
         self.types.push(found.unwrap_or(MIXED));
     }
 
+    /// The type of an expression or pattern judged before.
+    pub fn of(&self, row: u16) -> u16 {
+        self.types[usize::from(row)].into()
+    }
+
     pub fn judge(&self) -> Result<(), Refusal> {
         self.failing.map_or(Ok(()), |r| Err(Refusal::new(8, r)))
     }

@@ -1,7 +1,8 @@
 //! Refusal 9: binding (report, A.1; 01, "Binding"), and the masks it rests on.
 
-use super::{Reading, Refusal};
+use super::Refusal;
 use crate::image::{Image, Row, NONE};
+use crate::reading::Reading;
 
 /// The variables of a row and of the rows below it.
 #[derive(Clone, Copy, Default)]
