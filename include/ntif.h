@@ -1,6 +1,8 @@
 /* The calls of libntif.a, for C on x86-64. Every call may be given anything: it ends with the answer or with a numbered
  * refusal, and a refusal changes no byte that was lent. No call allocates, none keeps what it was lent. A pointer has as
- * many bytes behind it as the length says, and a buffer that is written shares none with another buffer of the call. */
+ * many bytes behind it as the length says, and a buffer that is written shares none with another buffer of the call.
+ * A call takes its stack from its caller: at most 400 kB for check, 240 kB for start and 480 kB for step on the deepest
+ * images of 2,048 rows, about 60 kB on images that nest little. */
 #ifndef NTIF_H
 #define NTIF_H
 

@@ -4,12 +4,10 @@ use Rattle.actions.proofs.blocked_at.Tie as tie
 use Rattle.actions.proofs.blocked_at.Reads as reads
 use Rattle.actions.proofs.blocked_at.Lts as lts
 
--- src/lib.rt:181:9
 returns : tie.Need-returns
 returns c =
     rw (c .if1 .taken)
 
--- src/lib.rt:177:1
 returns-2 : tie.Need-returns-2
 returns-2 c =
     rw (c .if1 .left)

@@ -7,34 +7,27 @@ use Rattle.actions.proofs.choose.Lts as lts
 use Rattle.actions.proofs.draw.Reads as draw-reads
 use Rattle.actions.proofs.try_condition.Reads as try-condition-reads
 
--- src/lib.rt:206:9
 draw-requires : tie.Need-draw-requires
 draw-requires c κs =
     choose-items (c .before .before .before .pre)
 
--- src/lib.rt:209:63
 enum-told : tie.Need-enum-told
 enum-told c = search needs
 
--- src/lib.rt:209:26
 try-condition-requires : tie.Need-try-condition-requires
 try-condition-requires c κs =
     drawn-typed (c .before .before .before .before .before .before .before .before .pre) _ _ (c .before .before .before .before .draw .ensures) (c .before .enum-told .given .1)
 
--- src/lib.rt:202:1
 same-length : tie.Need-same-length
 same-length c = search needs
 
--- src/lib.rt:202:1
 returns : tie.Need-returns
 returns c =
     choose-tried (c .before .before .before .before .before .before .before .before .before .pre) _ _ (c .before .before .before .before .before .draw .ensures) (c .before .before .enum-told .given .1) (c .try-condition .ensures)
 
--- src/lib.rt:202:1
 same-length-2 : tie.Need-same-length-2
 same-length-2 c = search needs
 
--- src/lib.rt:202:1
 returns-2 : tie.Need-returns-2
 returns-2 c =
     choose-stopped (c .before .before .before .before .before .before .pre) _ _ (c .before .before .draw .ensures) (other-out (c .match .keys2))

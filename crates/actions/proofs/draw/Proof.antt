@@ -29,102 +29,82 @@ abbrev μ-loop : tie.MeasureT-loop
 μ-loop image i place first store₀ script run words₀ r₀ store words r =
     (r + 1) % 65536
 
--- src/lib.rt:116:5
 loop-holds : tie.Need-loop-holds Inv-loop μ-loop
 loop-holds c =
     (refl, c .before .before .pre .items, λ values. refl)
 
--- src/lib.rt:117:13
 row-requires : tie.Need-row-requires Inv-loop μ-loop
 row-requires c κs =
     row-from refl (here-row (c .before .loop .inv .1) (c .loop-test .taken))
 
--- src/lib.rt:118:40
 size-requires : tie.Need-size-requires Inv-loop μ-loop
 size-requires c κs =
     drawn-type (c .before .before .before .before .before .pre .trailer) (here-row (c .before .before .loop .inv .1) (c .before .loop-test .taken)) (c .before .loop-test .taken) (c .row .ensures)
 
--- src/lib.rt:118:15
 read-word-requires : tie.Need-read-word-requires Inv-loop μ-loop
 read-word-requires c κs =
     tt
 
--- src/lib.rt:120:71
 enum-told : tie.Need-enum-told Inv-loop μ-loop
 enum-told c =
     c .match .keys1
 
--- src/lib.rt:120:90
 at-word-requires : tie.Need-at-word-requires Inv-loop μ-loop
 at-word-requires c κs =
     tt
 
--- src/lib.rt:120:17
 same-length : tie.Need-same-length Inv-loop μ-loop
 same-length c =
     search needs
 
--- src/lib.rt:120:17
 returns : tie.Need-returns Inv-loop μ-loop
 returns c =
     record { does = λ values. rw (c .at-word .ensures) (draw-ended (c .before .before .before .before .before .before .before .before .before .before .pre .trailer) (here-row (c .before .before .before .before .before .before .before .loop .inv .1) (c .before .before .before .before .before .before .loop-test .taken)) (c .before .before .before .before .before .before .loop-test .taken) (c .before .before .before .before .before .row .ensures) _ _ (c .before .before .before .before .before .before .before .before .before .before .args .run) _ _ (c .before .before .before .before .size .ensures) (c .before .before .before .read-word .ensures) values (c .before .enum-told .given .1) ∙ c .before .before .before .before .before .before .before .loop .inv .2 values) }
 
--- src/lib.rt:123:74
 enum-told-2 : tie.Need-enum-told-2 Inv-loop μ-loop
 enum-told-2 c =
     c .match .keys2
 
--- src/lib.rt:123:106
 add-at-word : tie.Need-add-at-word Inv-loop μ-loop
 add-at-word c =
     let i = word-inside _ _ _ (c .before .before .read-word .ensures) (λ e. let k : _≡_ {A = ℕ} 0 1 = cc in absurd (omega arith)) in search needs
 
--- src/lib.rt:123:93
 at-word-requires-2 : tie.Need-at-word-requires-2 Inv-loop μ-loop
 at-word-requires-2 c κs =
     tt
 
--- src/lib.rt:123:17
 same-length-2 : tie.Need-same-length-2 Inv-loop μ-loop
 same-length-2 c =
     search needs
 
--- src/lib.rt:123:17
 returns-2 : tie.Need-returns-2 Inv-loop μ-loop
 returns-2 c =
     record { does = λ values. rw (c .at-word2 .ensures) (draw-out (c .before .before .before .before .before .before .before .before .before .before .pre .trailer) (here-row (c .before .before .before .before .before .before .before .loop .inv .1) (c .before .before .before .before .before .before .loop-test .taken)) (c .before .before .before .before .before .before .loop-test .taken) (c .before .before .before .before .before .row .ensures) _ _ (c .before .before .before .before .before .before .before .before .before .before .args .run) _ _ (c .before .before .before .before .size .ensures) (c .before .before .before .read-word .ensures) values (c .before .enum-told2 .given .1) ∙ c .before .before .before .before .before .before .before .loop .inv .2 values) }
 
--- src/lib.rt:125:24
 enum-known-z : tie.Need-enum-known-z Inv-loop μ-loop
 enum-known-z c =
     c .match .keys3
 
--- src/lib.rt:126:23
 cast-z : tie.Need-cast-z Inv-loop μ-loop
 cast-z c =
     search needs
 
--- src/lib.rt:126:17
 mul-z : tie.Need-mul-z Inv-loop μ-loop
 mul-z c =
     search needs
 
--- src/lib.rt:126:17
 slice-set-from-z : tie.Need-slice-set-from-z Inv-loop μ-loop
 slice-set-from-z c =
     omega (arith, drawn-inside (c .before .before .before .before .before .before .before .before .before .before .before .pre .trailer) (here-row (c .before .before .before .before .before .before .before .before .loop .inv .1) (c .before .before .before .before .before .before .before .loop-test .taken)) (c .before .before .before .before .before .before .before .loop-test .taken) (c .before .before .before .before .before .before .row .ensures), c .before .before .before .before .before .before .before .before .loop .inv .0)
 
--- src/lib.rt:127:17
 add-words : tie.Need-add-words Inv-loop μ-loop
 add-words c =
     let i = word-inside _ _ _ (c .before .before .before .before .read-word .ensures) (λ e. let k : _≡_ {A = ℕ} 0 1 = cc in absurd (omega arith)) in search needs
 
--- src/lib.rt:116:5
 loop-less : tie.Need-loop-less Inv-loop μ-loop
 loop-less c =
     draw-next (c .before .before .before .before .before .before .before .before .before .before .before .pre .trailer) (here-row (c .before .before .before .before .before .before .before .before .loop .inv .1) (c .before .before .before .before .before .before .before .loop-test .taken)) (c .before .before .before .before .before .before .before .loop-test .taken) (c .before .before .before .before .before .before .row .ensures) .0
 
--- src/lib.rt:116:5
 loop-again : tie.Need-loop-again Inv-loop μ-loop
 loop-again c =
     let l = drawn-local (c .before .before .before .before .before .before .before .before .before .before .before .pre .trailer) (here-row (c .before .before .before .before .before .before .before .before .loop .inv .1) (c .before .before .before .before .before .before .before .loop-test .taken)) (c .before .before .before .before .before .before .before .loop-test .taken) (c .before .before .before .before .before .before .row .ensures) _ _ (c .before .before .before .before .before .size .ensures) (c .before .before .before .before .read-word .ensures) (c .before .before .z .given .1) in (
@@ -133,17 +113,14 @@ loop-again c =
       λ values. draw-read (c .before .before .before .before .before .before .before .before .before .before .before .pre .trailer) (here-row (c .before .before .before .before .before .before .before .before .loop .inv .1) (c .before .before .before .before .before .before .before .loop-test .taken)) (c .before .before .before .before .before .before .before .loop-test .taken) (c .before .before .before .before .before .before .row .ensures) _ _ (c .before .before .before .before .before .before .before .before .before .before .before .args .run) _ _ (c .before .before .before .before .before .size .ensures) (c .before .before .before .before .read-word .ensures) values (c .before .before .z .given .1) l ∙ c .before .before .before .before .before .before .before .before .loop .inv .2 values,
     )
 
--- src/lib.rt:132:36
 at-word-requires-3 : tie.Need-at-word-requires-3 Inv-loop μ-loop
 at-word-requires-3 c κs =
     tt
 
--- src/lib.rt:110:1
 same-length-3 : tie.Need-same-length-3 Inv-loop μ-loop
 same-length-3 c =
     search needs
 
--- src/lib.rt:110:1
 returns-3 : tie.Need-returns-3 Inv-loop μ-loop
 returns-3 c =
     record { does = λ values. rw (c .at-word3 .ensures) (draw-none (c .before .before .loop .inv .1) (c .before .loop-test .left) _ _ _ ∙ c .before .before .loop .inv .2 values) }

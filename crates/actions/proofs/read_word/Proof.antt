@@ -9,23 +9,18 @@ use Rattle.actions.proofs.read_word.Lts as lts
 use Rattle.values.proofs.of_size.Reads as of-size-reads
 use Rattle.words.proofs.word.Reads as word-reads
 
--- src/lib.rt:88:9
 returns : tie.Need-returns
 returns c = word-ended _ _ _ (c .if1 .taken)
 
--- src/lib.rt:90:9
 word-requires : tie.Need-word-requires
 word-requires c κs = search needs
 
--- src/lib.rt:91:8
 of-size-requires : tie.Need-of-size-requires
 of-size-requires c κs = search needs
 
--- src/lib.rt:92:9
 returns-2 : tie.Need-returns-2
 returns-2 c = word-read _ _ _ (omega (arith, c .before .before .before .if1 .left)) (c .before .before .word .ensures) (held-is _ (c .before .before .word .ok)) (c .before .of-size .ensures) (c .if2 .taken)
 
--- src/lib.rt:84:1
 returns-3 : tie.Need-returns-3
 returns-3 c = word-out _ _ _ (omega (arith, c .before .before .before .if1 .left)) (c .before .before .word .ensures) (held-is _ (c .before .before .word .ok)) (c .before .of-size .ensures) (c .if2 .left)
 

@@ -25,47 +25,38 @@ abbrev μ-loop : tie.MeasureT-loop
 μ-loop image rows first store₀ r₀ store r =
     (r + 1) % 65536
 
--- src/lib.rt:46:5
 loop-holds : tie.Need-loop-holds Inv-loop μ-loop
 loop-holds c =
     (refl, c .before .pre, refl)
 
--- src/lib.rt:47:13
 row-requires : tie.Need-row-requires Inv-loop μ-loop
 row-requires c κs =
     row-from refl (here-row (c .before .loop .inv .1) (c .loop-test .taken))
 
--- src/lib.rt:48:15
 cast-store : tie.Need-cast-store Inv-loop μ-loop
 cast-store c =
     search needs
 
--- src/lib.rt:48:9
 mul-store : tie.Need-mul-store Inv-loop μ-loop
 mul-store c =
     search needs
 
--- src/lib.rt:48:9
 slice-set-of-store : tie.Need-slice-set-of-store Inv-loop μ-loop
 slice-set-of-store c =
     omega (arith, variable-inside (here-row (c .before .before .before .loop .inv .1) (c .before .before .loop-test .taken)) (c .before .before .loop-test .taken) (c .before .row .ensures), c .before .before .before .loop .inv .0)
 
--- src/lib.rt:46:5
 loop-less : tie.Need-loop-less Inv-loop μ-loop
 loop-less c =
     reset-next (here-row (c .before .before .before .loop .inv .1) (c .before .before .loop-test .taken)) (c .before .before .loop-test .taken) (c .before .row .ensures) .0
 
--- src/lib.rt:46:5
 loop-again : tie.Need-loop-again Inv-loop μ-loop
 loop-again c =
     (length-set (c .before .before .before .loop .store) _ _ ∙ c .before .before .before .loop .inv .0, reset-next (here-row (c .before .before .before .loop .inv .1) (c .before .before .loop-test .taken)) (c .before .before .loop-test .taken) (c .before .row .ensures) .1, reset-step (here-row (c .before .before .before .loop .inv .1) (c .before .before .loop-test .taken)) (c .before .before .loop-test .taken) (c .before .row .ensures) (c .before .before .before .loop .store) ∙ c .before .before .before .loop .inv .2)
 
--- src/lib.rt:41:1
 same-length : tie.Need-same-length Inv-loop μ-loop
 same-length c =
     search needs
 
--- src/lib.rt:41:1
 returns : tie.Need-returns Inv-loop μ-loop
 returns c =
     reset-none (c .before .loop .inv .1) (c .loop-test .left) (c .before .loop .store) ∙ c .before .loop .inv .2

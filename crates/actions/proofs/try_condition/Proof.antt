@@ -9,43 +9,34 @@ use Rattle.actions.proofs.try_condition.Lts as lts
 use Rattle.actions.proofs.blocked_at.Reads as blocked-at-reads
 use Rattle.expressions.proofs.test.Reads as test-reads
 
--- src/lib.rt:192:9
 returns : tie.Need-returns
 returns c =
     try-none _ _ _ _ _ (c .if1 .taken)
 
--- src/lib.rt:194:11
 test-requires : tie.Need-test-requires
 test-requires c κs =
     here-row (c .before .before .pre) (c .if1 .left)
 
--- src/lib.rt:195:37
 enum-told : tie.Need-enum-told
 enum-told c = search needs
 
--- src/lib.rt:196:52
 enum-told-2 : tie.Need-enum-told-2
 enum-told-2 c = search needs
 
--- src/lib.rt:196:52
 blocked-at-requires : tie.Need-blocked-at-requires
 blocked-at-requires c κs = search needs
 
--- src/lib.rt:197:72
 enum-told-3 : tie.Need-enum-told-3
 enum-told-3 c = search needs
 
--- src/lib.rt:187:1
 returns-2 : tie.Need-returns-2
 returns-2 c =
     try-holds _ _ _ _ _ (c .before .before .before .if1 .left) (c .before .before .test .ensures) (c .enum-told .given .1)
 
--- src/lib.rt:187:1
 returns-3 : tie.Need-returns-3
 returns-3 c =
     try-fails _ _ _ _ _ (c .before .before .before .before .if1 .left) (c .before .before .before .test .ensures) (c .before .enum-told2 .given .1) (c .blocked-at .ensures)
 
--- src/lib.rt:187:1
 returns-4 : tie.Need-returns-4
 returns-4 c =
     try-unsure _ _ _ _ _ (c .before .before .before .if1 .left) (c .before .before .test .ensures) (c .enum-told3 .given .1)

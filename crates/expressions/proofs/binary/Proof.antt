@@ -16,92 +16,72 @@ use Rattle.values.proofs.quotient.Reads as quotient-reads
 use Rattle.values.proofs.remainder.Reads as remainder-reads
 use Rattle.values.proofs.times.Reads as times-reads
 
--- src/lib.rt:85:15
 of-bool-requires : tie.Need-of-bool-requires
 of-bool-requires c κs = search needs
 
--- src/lib.rt:86:15
 of-bool-requires-2 : tie.Need-of-bool-requires-2
 of-bool-requires-2 c κs = search needs
 
--- src/lib.rt:87:15
 plus-requires : tie.Need-plus-requires
 plus-requires c κs = search needs
 
--- src/lib.rt:88:15
 minus-requires : tie.Need-minus-requires
 minus-requires c κs = search needs
 
--- src/lib.rt:89:15
 times-requires : tie.Need-times-requires
 times-requires c κs = search needs
 
--- src/lib.rt:90:15
 quotient-requires : tie.Need-quotient-requires
 quotient-requires c κs = search needs
 
--- src/lib.rt:91:15
 remainder-requires : tie.Need-remainder-requires
 remainder-requires c κs = search needs
 
--- src/lib.rt:92:15
 of-bool-requires-3 : tie.Need-of-bool-requires-3
 of-bool-requires-3 c κs = search needs
 
--- src/lib.rt:93:15
 of-bool-requires-4 : tie.Need-of-bool-requires-4
 of-bool-requires-4 c κs = search needs
 
--- src/lib.rt:94:14
 of-bool-requires-5 : tie.Need-of-bool-requires-5
 of-bool-requires-5 c κs = search needs
 
--- src/lib.rt:80:1
 returns : tie.Need-returns
 unfolding binaryOf applyBinary
 returns c = binary-by (c .before .before .args .code) 17 (c .before .before .args .a) (c .before .before .args .b) (c .before .match .keys1) (c .of-bool .ok) (c .of-bool .ensures ∙ rw (zero-is (c .before .before .args .a) (c .before .before .fits .a .sfits), zero-is (c .before .before .args .b) (c .before .before .fits .b .sfits)))
 
--- src/lib.rt:80:1
 returns-2 : tie.Need-returns-2
 unfolding binaryOf applyBinary
 returns-2 c = binary-by (c .before .before .args .code) 18 (c .before .before .args .a) (c .before .before .args .b) (c .before .match .keys2) (c .of-bool2 .ok) (c .of-bool2 .ensures ∙ rw (zero-is (c .before .before .args .a) (c .before .before .fits .a .sfits), zero-is (c .before .before .args .b) (c .before .before .fits .b .sfits)))
 
--- src/lib.rt:80:1
 returns-3 : tie.Need-returns-3
 unfolding binaryOf applyBinary
 returns-3 c = binary-by (c .before .before .args .code) 20 (c .before .before .args .a) (c .before .before .args .b) (c .before .match .keys3) (c .plus .ok) (c .plus .ensures ∙ held-both (plus half16) (c .before .before .args .a) (c .before .before .args .b) (c .before .before .fits .a .sfits) (c .before .before .fits .b .sfits))
 
--- src/lib.rt:80:1
 returns-4 : tie.Need-returns-4
 unfolding binaryOf applyBinary
 returns-4 c = binary-by (c .before .before .args .code) 21 (c .before .before .args .a) (c .before .before .args .b) (c .before .match .keys4) (c .minus .ok) (c .minus .ensures ∙ held-both (minus half16) (c .before .before .args .a) (c .before .before .args .b) (c .before .before .fits .a .sfits) (c .before .before .fits .b .sfits))
 
--- src/lib.rt:80:1
 returns-5 : tie.Need-returns-5
 unfolding binaryOf applyBinary
 returns-5 c = binary-by (c .before .before .args .code) 22 (c .before .before .args .a) (c .before .before .args .b) (c .before .match .keys5) (c .times .ok) (c .times .ensures ∙ held-both (times half16) (c .before .before .args .a) (c .before .before .args .b) (c .before .before .fits .a .sfits) (c .before .before .fits .b .sfits))
 
--- src/lib.rt:80:1
 returns-6 : tie.Need-returns-6
 unfolding binaryOf applyBinary
 returns-6 c = binary-by (c .before .before .args .code) 23 (c .before .before .args .a) (c .before .before .args .b) (c .before .match .keys6) (c .quotient .ok) (c .quotient .ensures ∙ held-both (quotient half16) (c .before .before .args .a) (c .before .before .args .b) (c .before .before .fits .a .sfits) (c .before .before .fits .b .sfits))
 
--- src/lib.rt:80:1
 returns-7 : tie.Need-returns-7
 unfolding binaryOf applyBinary
 returns-7 c = binary-by (c .before .before .args .code) 24 (c .before .before .args .a) (c .before .before .args .b) (c .before .match .keys7) (c .remainder .ok) (c .remainder .ensures ∙ held-both remainder (c .before .before .args .a) (c .before .before .args .b) (c .before .before .fits .a .sfits) (c .before .before .fits .b .sfits))
 
--- src/lib.rt:80:1
 returns-8 : tie.Need-returns-8
 unfolding binaryOf applyBinary
 returns-8 c = binary-by (c .before .before .args .code) 25 (c .before .before .args .a) (c .before .before .args .b) (c .before .match .keys8) (c .of-bool3 .ok) (c .of-bool3 .ensures ∙ rw (same-is (c .before .before .args .a) (c .before .before .args .b) (c .before .before .fits .a .sfits) (c .before .before .fits .b .sfits)))
 
--- src/lib.rt:80:1
 returns-9 : tie.Need-returns-9
 unfolding binaryOf applyBinary
 returns-9 c = binary-by (c .before .before .args .code) 26 (c .before .before .args .a) (c .before .before .args .b) (c .before .match .keys9) (c .of-bool4 .ok) (c .of-bool4 .ensures ∙ rw (held-is (c .before .before .args .a) (c .before .before .fits .a .sfits), held-is (c .before .before .args .b) (c .before .before .fits .b .sfits)))
 
--- src/lib.rt:80:1
 returns-10 : tie.Need-returns-10
 unfolding applyBinary
 returns-10 c =

@@ -7,19 +7,15 @@ use Rattle.expressions.proofs.constant.Reads as reads
 use Rattle.expressions.proofs.constant.Lts as lts
 use Rattle.values.proofs.signed.Reads as signed-reads
 
--- src/lib.rt:65:9
 signed-requires : tie.Need-signed-requires
 signed-requires c κs = search needs
 
--- src/lib.rt:65:9
 returns : tie.Need-returns
 returns c = int-constant (c .before .before .args .a) (c .before .before .args .b) (c .before .if1 .taken) (c .signed .ok) (c .signed .ensures)
 
--- src/lib.rt:67:5
 cast-result : tie.Need-cast-result
 cast-result c = search needs
 
--- src/lib.rt:61:1
 returns-2 : tie.Need-returns-2
 returns-2 c = other-constant (c .before .args .a) (c .before .args .b) (c .if1 .left) (omega (arith, c .before .fits .b))
 

@@ -7,43 +7,33 @@ use Rattle.expressions.proofs.row.Reads as reads
 use Rattle.expressions.proofs.row.Lts as lts
 use Rattle.words.proofs.half.Reads as half-reads
 
--- src/lib.rt:39:30
 mul-at : tie.Need-mul-at
 mul-at c = search needs
 
--- src/lib.rt:39:14
 add-at : tie.Need-add-at
 add-at c = search needs
 
--- src/lib.rt:41:15
 half-requires : tie.Need-half-requires
 half-requires c κs = omega (arith, inside-from (c .before .pre))
 
--- src/lib.rt:42:24
 add-half : tie.Need-add-half
 add-half c = search needs
 
--- src/lib.rt:42:12
 half-requires-2 : tie.Need-half-requires-2
 half-requires-2 c κs = omega (arith, inside-from (c .before .before .pre))
 
--- src/lib.rt:43:24
 add-half-2 : tie.Need-add-half-2
 add-half-2 c = search needs
 
--- src/lib.rt:43:12
 half-requires-3 : tie.Need-half-requires-3
 half-requires-3 c κs = omega (arith, inside-from (c .before .before .before .pre))
 
--- src/lib.rt:44:24
 add-half-3 : tie.Need-add-half-3
 add-half-3 c = search needs
 
--- src/lib.rt:44:12
 half-requires-4 : tie.Need-half-requires-4
 half-requires-4 c κs = omega (arith, inside-from (c .before .before .before .before .pre))
 
--- src/lib.rt:35:1
 returns : tie.Need-returns
 returns c = rw (read-from (c .before .before .before .before .before .pre), ← c .before .before .before .half .ensures, ← c .before .before .half2 .ensures, ← c .before .half3 .ensures, ← c .half4 .ensures)
 

@@ -6,27 +6,21 @@ use Rattle.expressions.proofs.test.Reads as reads
 use Rattle.expressions.proofs.test.Lts as lts
 use Rattle.expressions.proofs.eval.Reads as eval-reads
 
--- src/lib.rt:127:11
 eval-requires : tie.Need-eval-requires
 eval-requires c κs = search needs
 
--- src/lib.rt:128:19
 enum-known-a : tie.Need-enum-known-a
 enum-known-a c = search needs
 
--- src/lib.rt:135:27
 enum-told : tie.Need-enum-told
 enum-told c = search needs
 
--- src/lib.rt:123:1
 returns : tie.Need-returns
 returns c = test-fails (c .before .before .before .before .before .before .pre) (c .before .before .before .before .eval .ensures) (c .before .before .a .given .1) (c .if1 .taken)
 
--- src/lib.rt:123:1
 returns-2 : tie.Need-returns-2
 returns-2 c = test-holds (c .before .before .before .before .before .before .pre) (c .before .before .before .before .eval .ensures) (c .before .before .a .given .1) (c .if1 .left)
 
--- src/lib.rt:123:1
 returns-3 : tie.Need-returns-3
 returns-3 c = test-unsure _ _ _ (c .before .before .eval .ensures) (c .enum-told .given .1)
 

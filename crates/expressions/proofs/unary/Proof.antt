@@ -12,20 +12,16 @@ use Rattle.expressions.proofs.unary.Lts as lts
 use Rattle.values.proofs.negate.Reads as negate-reads
 use Rattle.values.proofs.of_bool.Reads as of-bool-reads
 
--- src/lib.rt:75:9
 of-bool-requires : tie.Need-of-bool-requires
 of-bool-requires c κs = search needs
 
--- src/lib.rt:75:9
 returns : tie.Need-returns
 unfolding unaryOf applyUnary
 returns c = unary-by (c .before .before .args .code) 16 (c .before .before .args .a) (c .before .if1 .taken) (c .of-bool .ok) (c .of-bool .ensures ∙ rw (zero-is (c .before .before .args .a) (c .before .before .fits .a .sfits)))
 
--- src/lib.rt:77:5
 negate-requires : tie.Need-negate-requires
 negate-requires c κs = search needs
 
--- src/lib.rt:70:1
 returns-2 : tie.Need-returns-2
 unfolding applyUnary
 returns-2 c = held-is _ (c .negate .ok) ∙ c .negate .ensures ∙ rw (other-code (c .before .before .args .code) (c .before .if1 .left), held-is (c .before .before .args .a) (c .before .before .fits .a .sfits))

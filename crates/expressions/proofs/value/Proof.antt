@@ -9,19 +9,15 @@ use Rattle.expressions.proofs.value.Tie as tie
 use Rattle.expressions.proofs.value.Reads as reads
 use Rattle.expressions.proofs.value.Lts as lts
 
--- src/lib.rt:53:13
 mul-z : tie.Need-mul-z
 mul-z c = search needs
 
--- src/lib.rt:53:13
 shared-slice-copy-out-z : tie.Need-shared-slice-copy-out-z
 shared-slice-copy-out-z c = search needs
 
--- src/lib.rt:55:9
 returns : tie.Need-returns
 returns c = value-undefined (getD (c .before .before .args .store .now) (c .before .before .args .v) (pos 0)) (c .before .z .given) (c .if1 .taken) ∙ ap valueOf (getD-any (c .before .before .args .store .now) (c .before .before .args .v) (pos 0) (mark half16) (c .before .before .pre))
 
--- src/lib.rt:49:1
 returns-2 : tie.Need-returns-2
 returns-2 c = value-defined (getD (c .before .before .args .store .now) (c .before .before .args .v) (pos 0)) (c .before .z .given) (c .if1 .left) ∙ ap valueOf (getD-any (c .before .before .args .store .now) (c .before .before .args .v) (pos 0) (mark half16) (c .before .before .pre))
 

@@ -15,46 +15,36 @@ Inv-loop to₀ from i₀ to i = (i ≤ length from) × (length to ≡ length to�
 abbrev μ-loop : tie.MeasureT-loop
 μ-loop to₀ from i₀ to i = length from - i
 
--- src/lib.rt:24:5
 loop-holds : tie.Need-loop-holds Inv-loop μ-loop
 loop-holds c = (search needs, refl, refl)
 
--- src/lib.rt:25:17
 mul-to : tie.Need-mul-to Inv-loop μ-loop
 mul-to c = search needs
 
--- src/lib.rt:25:17
 shared-slice-copy-out-to : tie.Need-shared-slice-copy-out-to Inv-loop μ-loop
 shared-slice-copy-out-to c = search needs
 
--- src/lib.rt:25:9
 mul-t8 : tie.Need-mul-t8 Inv-loop μ-loop
 mul-t8 c = search needs
 
--- src/lib.rt:25:9
 slice-set-from-to : tie.Need-slice-set-from-to Inv-loop μ-loop
 slice-set-from-to c = search needs
 
--- src/lib.rt:26:9
 add-i : tie.Need-add-i Inv-loop μ-loop
 add-i c = search needs
 
--- src/lib.rt:24:5
 loop-less : tie.Need-loop-less Inv-loop μ-loop
 loop-less c = search needs
 
--- src/lib.rt:24:5
 loop-again : tie.Need-loop-again Inv-loop μ-loop
 loop-again c =
     let o = c .before .before in
     let a = c .before .before .before in
     (omega arith, length-set (o .loop .to) (o .loop .i) _ ∙ o .loop .inv .1, copied-step (a .args .from .now) (a .args .to .now) (o .loop .to) (o .loop .i) (omega arith) (omega arith) (o .loop .inv .2) (c .to .given) refl)
 
--- src/lib.rt:19:1
 same-length : tie.Need-same-length Inv-loop μ-loop
 same-length c = search needs
 
--- src/lib.rt:19:1
 returns : tie.Need-returns Inv-loop μ-loop
 returns c =
     let a = c .before .before in

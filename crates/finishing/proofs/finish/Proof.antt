@@ -8,59 +8,46 @@ use Rattle.actions.proofs.blocked_at.Reads as blocked-at-reads
 use Rattle.finishing.proofs.copy.Reads as copy-reads
 use Rattle.finishing.proofs.put_label.Reads as put-label-reads
 
--- src/lib.rt:83:44
 enum-told : tie.Need-enum-told
 enum-told c = search needs
 
--- src/lib.rt:83:44
 blocked-at-requires : tie.Need-blocked-at-requires
 blocked-at-requires c κs = search needs
 
--- src/lib.rt:84:24
 enum-known-out : tie.Need-enum-known-out
 enum-known-out c = search needs
 
--- src/lib.rt:85:24
 enum-known-out-2 : tie.Need-enum-known-out-2
 enum-known-out-2 c = search needs
 
--- src/lib.rt:86:13
 copy-requires : tie.Need-copy-requires
 copy-requires c κs = search needs
 
--- src/lib.rt:87:13
 put-label-requires : tie.Need-put-label-requires
 put-label-requires c κs = search needs
 
--- src/lib.rt:90:24
 cast-t18 : tie.Need-cast-t18
 cast-t18 c = search needs
 
--- src/lib.rt:91:24
 sub-t19 : tie.Need-sub-t19
 sub-t19 c = search needs
 
--- src/lib.rt:69:1
 returns : tie.Need-returns
 returns c =
     let a = c .before .before .before .args in
     told-ends (a .ran) (a .at) (a .budget) (a .store .now) (a .label .now) (a .work .now) (a .values .now) (c .before .enum-told .given .1) (c .blocked-at .ensures)
 
--- src/lib.rt:69:1
 returns-2 : tie.Need-returns-2
 returns-2 c =
     let a = c .before .before .before .args in
     told-stops (a .ran) (a .at) (a .budget) (a .store .now) (a .label .now) (a .work .now) (a .values .now) (c .before .out .given .1)
 
--- src/lib.rt:69:1
 same-length : tie.Need-same-length
 same-length c = search needs
 
--- src/lib.rt:69:1
 same-length-2 : tie.Need-same-length-2
 same-length-2 c = search needs
 
--- src/lib.rt:69:1
 returns-3 : tie.Need-returns-3
 returns-3 c =
     let a = c .before .before .before .before .before .before .before .before .before .before .before .args in

@@ -6,59 +6,45 @@ use Rattle.finishing.proofs.label_word.Tie as tie
 use Rattle.finishing.proofs.label_word.Reads as reads
 use Rattle.finishing.proofs.label_word.Lts as lts
 
--- src/lib.rt:37:13
 returns : tie.Need-returns
 returns c = word-none (c .before .before .before .args .run) (c .before .before .before .args .values .now) (c .before .before .before .args .k) (c .before .if1 .taken) (c .if2 .taken)
 
--- src/lib.rt:39:9
 returns-2 : tie.Need-returns-2
 returns-2 c = word-rest (c .before .before .before .args .run) (c .before .before .before .args .values .now) (c .before .before .before .args .k) (c .before .if1 .taken) (c .if2 .left)
 
--- src/lib.rt:42:16
 cast-result : tie.Need-cast-result
 cast-result c = search needs
 
--- src/lib.rt:42:9
 returns-3 : tie.Need-returns-3
 returns-3 c = word-gate (c .before .before .before .before .args .run) (c .before .before .before .before .args .values .now) (c .before .before .before .before .args .k) (c .before .before .if1 .left) (c .before .if3 .taken) (omega arith)
 
--- src/lib.rt:46:13
 returns-4 : tie.Need-returns-4
 returns-4 c = word-eight (c .before .before .before .before .before .before .args .run) (c .before .before .before .before .before .before .args .values .now) (c .before .before .before .before .before .before .args .k) (c .before .before .before .before .if1 .left) (c .before .before .if4 .taken) (c .before .before .before .before .before .before .pre .1) (c .if5 .taken)
 
--- src/lib.rt:48:16
 cast-result-2 : tie.Need-cast-result-2
 cast-result-2 c = search needs
 
--- src/lib.rt:48:9
 returns-5 : tie.Need-returns-5
 returns-5 c = word-count (c .before .before .before .before .before .before .before .args .run) (c .before .before .before .before .before .before .before .args .values .now) (c .before .before .before .before .before .before .before .args .k) (c .before .before .before .before .before .if1 .left) (c .before .before .before .if4 .taken) (c .before .before .before .before .before .before .before .pre .1) (c .before .if5 .left)
 
--- src/lib.rt:50:8
 sub-if6 : tie.Need-sub-if6
 sub-if6 c = search needs
 
--- src/lib.rt:50:16
 cast-if6 : tie.Need-cast-if6
 cast-if6 c = search needs
 
--- src/lib.rt:51:23
 sub-result : tie.Need-sub-result
 sub-result c = search needs
 
--- src/lib.rt:51:16
 mul-result : tie.Need-mul-result
 mul-result c = search needs
 
--- src/lib.rt:51:16
 shared-slice-copy-out-result : tie.Need-shared-slice-copy-out-result
 shared-slice-copy-out-result c = search needs
 
--- src/lib.rt:51:9
 returns-6 : tie.Need-returns-6
 returns-6 c = word-value (c .before .before .before .before .before .before .before .args .run) (c .before .before .before .before .before .before .before .args .values .now) (c .before .before .before .before .before .before .before .args .k) (c .before .before .before .before .before .if1 .left) (c .before .before .before .before .if3 .left) (c .before .before .before .if4 .left) (c .before .if6 .taken) (c .result .given)
 
--- src/lib.rt:31:1
 returns-7 : tie.Need-returns-7
 returns-7 c = word-after (c .before .before .before .before .before .before .args .run) (c .before .before .before .before .before .before .args .values .now) (c .before .before .before .before .before .before .args .k) (c .before .before .before .before .if1 .left) (c .before .before .before .if3 .left) (c .before .before .if4 .left) (c .if6 .left)
 

@@ -19,31 +19,24 @@ Inv-loop label₀ values run k₀ label k = (k ≤ 10) × (length label ≡ leng
 abbrev μ-loop : tie.MeasureT-loop
 μ-loop label₀ values run k₀ label k = 10 - k
 
--- src/lib.rt:62:5
 loop-holds : tie.Need-loop-holds Inv-loop μ-loop
 loop-holds c = (search needs, refl, refl)
 
--- src/lib.rt:63:20
 label-word-requires : tie.Need-label-word-requires Inv-loop μ-loop
 label-word-requires c κs = search needs
 
--- src/lib.rt:63:9
 mul-t7 : tie.Need-mul-t7 Inv-loop μ-loop
 mul-t7 c = search needs
 
--- src/lib.rt:63:9
 slice-set-from-label : tie.Need-slice-set-from-label Inv-loop μ-loop
 slice-set-from-label c = search needs
 
--- src/lib.rt:64:9
 add-k : tie.Need-add-k Inv-loop μ-loop
 add-k c = search needs
 
--- src/lib.rt:62:5
 loop-less : tie.Need-loop-less Inv-loop μ-loop
 loop-less c = search needs
 
--- src/lib.rt:62:5
 loop-again : tie.Need-loop-again Inv-loop μ-loop
 loop-again c =
     let o = c .before .before in
@@ -51,11 +44,9 @@ loop-again c =
     let ten = words-ten (a .args .run) (a .args .values .now) (a .pre .1) in
     (omega arith, length-set (o .loop .label) (o .loop .k) _ ∙ o .loop .inv .1, copied-step (labelWords (labelOf (a .args .run) (a .args .values .now))) (a .args .label .now) (o .loop .label) (o .loop .k) (omega arith) (omega arith) (o .loop .inv .2) (c .label-word .ok) (c .label-word .ensures))
 
--- src/lib.rt:57:1
 same-length : tie.Need-same-length Inv-loop μ-loop
 same-length c = search needs
 
--- src/lib.rt:57:1
 returns : tie.Need-returns Inv-loop μ-loop
 returns c =
     let a = c .before .before in

@@ -17,43 +17,33 @@ Inv-loop image i types n v₀ v = Entered image i v
 abbrev μ-loop : tie.MeasureT-loop
 μ-loop image i types n v₀ v = n - v
 
--- src/lib.rt:115:14
 sub-n : tie.Need-sub-n Inv-loop μ-loop
 sub-n c = omega (arith, laid (c .before .before .before .pre) .states)
 
--- src/lib.rt:117:5
 loop-holds : tie.Need-loop-holds Inv-loop μ-loop
 loop-holds c = entered-begin (c .before .before .before .pre)
 
--- src/lib.rt:118:21
 variable-type-requires : tie.Need-variable-type-requires Inv-loop μ-loop
 variable-type-requires c κs = record { located = c .before .before .before .before .before .pre; inside = omega arith }
 
--- src/lib.rt:119:13
 returns : tie.Need-returns Inv-loop μ-loop
 returns c = entered-type (c .before .before .before .before .before .before .before .pre) (c .before .before .before .loop .inv) (omega arith) (c .before .variable-type .ensures) (c .if1 .taken)
 
--- src/lib.rt:121:16
 parameter-requires : tie.Need-parameter-requires Inv-loop μ-loop
 parameter-requires c κs = record { located = c .before .before .before .before .before .before .before .pre; inside = omega arith }
 
--- src/lib.rt:122:13
 returns-2 : tie.Need-returns-2 Inv-loop μ-loop
 returns-2 c = entered-parameter (c .before .before .before .before .before .before .before .before .before .pre) (c .before .before .before .before .before .loop .inv) (omega arith) (c .before .before .before .variable-type .ensures) (c .before .before .if1 .left) (c .before .parameter .ensures) (c .if2 .taken)
 
--- src/lib.rt:124:9
 add-v : tie.Need-add-v Inv-loop μ-loop
 add-v c = search needs
 
--- src/lib.rt:117:5
 loop-less : tie.Need-loop-less Inv-loop μ-loop
 loop-less c = omega arith
 
--- src/lib.rt:117:5
 loop-again : tie.Need-loop-again Inv-loop μ-loop
 loop-again c = entered-next (c .before .before .before .before .before .before .before .before .before .pre) (c .before .before .before .before .before .loop .inv) (omega arith) (c .before .before .before .variable-type .ensures) (c .before .before .if1 .left) (c .before .parameter .ensures) (c .if2 .left)
 
--- src/lib.rt:110:1
 returns-3 : tie.Need-returns-3 Inv-loop μ-loop
 returns-3 c = entered-done (c .before .before .before .before .before .pre) (c .before .loop .inv) (omega arith)
 

@@ -13,51 +13,39 @@ use Rattle.header.proofs.sizes_fit.Reads as sizes-fit-reads
 use Rattle.header.proofs.starts_fit.Reads as starts-fit-reads
 use Rattle.image.proofs.trailer.Reads as trailer-reads
 
--- src/lib.rt:133:9
 length-fits-requires : tie.Need-length-fits-requires
 length-fits-requires c κs = search needs
 
--- src/lib.rt:134:9
 returns : tie.Need-returns
 returns c = header-1 _ (fails (c .before .length-fits .ensures) (c .if1 .taken))
 
--- src/lib.rt:136:9
 trailer-requires : tie.Need-trailer-requires
 trailer-requires c κs = omega (arith, long-enough _ (passes (c .before .length-fits .ensures) (c .if1 .left)))
 
--- src/lib.rt:137:9
 marked-requires : tie.Need-marked-requires
 marked-requires c κs = (passes (c .before .before .length-fits .ensures) (c .before .if1 .left), c .trailer .ensures)
 
--- src/lib.rt:138:9
 returns-2 : tie.Need-returns-2
 returns-2 c = header-2 _ (passes (c .before .before .before .before .length-fits .ensures) (c .before .before .before .if1 .left)) (fails (c .before .marked .ensures) (c .if2 .taken))
 
--- src/lib.rt:140:9
 starts-fit-requires : tie.Need-starts-fit-requires
 starts-fit-requires c κs = trailer-long _ _ (c .before .before .trailer .ensures) (passes (c .before .before .before .before .length-fits .ensures) (c .before .before .before .if1 .left)) (passes (c .before .marked .ensures) (c .if2 .left))
 
--- src/lib.rt:141:9
 returns-3 : tie.Need-returns-3
 returns-3 c = header-3 _ _ (c .before .before .before .before .trailer .ensures) (passes (c .before .before .before .before .before .before .length-fits .ensures) (c .before .before .before .before .before .if1 .left)) (passes (c .before .before .before .marked .ensures) (c .before .before .if2 .left)) (fails (c .before .starts-fit .ensures) (c .if3 .taken))
 
--- src/lib.rt:143:9
 sizes-fit-requires : tie.Need-sizes-fit-requires
 sizes-fit-requires c κs = located _ _ (c .before .before .before .before .trailer .ensures) (passes (c .before .before .before .before .before .before .length-fits .ensures) (c .before .before .before .before .before .if1 .left)) (passes (c .before .before .before .marked .ensures) (c .before .before .if2 .left)) (passes (c .before .starts-fit .ensures) (c .if3 .left))
 
--- src/lib.rt:144:9
 returns-4 : tie.Need-returns-4
 returns-4 c = header-4 _ _ (located _ _ (c .before .before .before .before .before .before .trailer .ensures) (passes (c .before .before .before .before .before .before .before .before .length-fits .ensures) (c .before .before .before .before .before .before .before .if1 .left)) (passes (c .before .before .before .before .before .marked .ensures) (c .before .before .before .before .if2 .left)) (passes (c .before .before .before .starts-fit .ensures) (c .before .before .if3 .left))) (fails (c .before .sizes-fit .ensures) (c .if4 .taken))
 
--- src/lib.rt:146:9
 entries-fit-requires : tie.Need-entries-fit-requires
 entries-fit-requires c κs = located _ _ (c .before .before .before .before .before .before .trailer .ensures) (passes (c .before .before .before .before .before .before .before .before .length-fits .ensures) (c .before .before .before .before .before .before .before .if1 .left)) (passes (c .before .before .before .before .before .marked .ensures) (c .before .before .before .before .if2 .left)) (passes (c .before .before .before .starts-fit .ensures) (c .before .before .if3 .left))
 
--- src/lib.rt:147:9
 returns-5 : tie.Need-returns-5
 returns-5 c = header-5 _ _ (located _ _ (c .before .before .before .before .before .before .before .before .trailer .ensures) (passes (c .before .before .before .before .before .before .before .before .before .before .length-fits .ensures) (c .before .before .before .before .before .before .before .before .before .if1 .left)) (passes (c .before .before .before .before .before .before .before .marked .ensures) (c .before .before .before .before .before .before .if2 .left)) (passes (c .before .before .before .before .before .starts-fit .ensures) (c .before .before .before .before .if3 .left))) (passes (c .before .before .before .sizes-fit .ensures) (c .before .before .if4 .left)) (fails (c .before .entries-fit .ensures) (c .if5 .taken))
 
--- src/lib.rt:130:1
 returns-6 : tie.Need-returns-6
 returns-6 c = header-6 _ _ (located _ _ (c .before .before .before .before .before .before .before .before .trailer .ensures) (passes (c .before .before .before .before .before .before .before .before .before .before .length-fits .ensures) (c .before .before .before .before .before .before .before .before .before .if1 .left)) (passes (c .before .before .before .before .before .before .before .marked .ensures) (c .before .before .before .before .before .before .if2 .left)) (passes (c .before .before .before .before .before .starts-fit .ensures) (c .before .before .before .before .if3 .left))) (passes (c .before .before .before .sizes-fit .ensures) (c .before .before .if4 .left)) (passes (c .before .entries-fit .ensures) (c .if5 .left))
 

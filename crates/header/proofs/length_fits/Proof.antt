@@ -7,19 +7,15 @@ use Rattle.header.proofs.length_fits.Tie as tie
 use Rattle.header.proofs.length_fits.Reads as reads
 use Rattle.header.proofs.length_fits.Lts as lts
 
--- src/lib.rt:14:22
 cast-if1 : tie.Need-cast-if1
 cast-if1 c = search needs
 
--- src/lib.rt:15:9
 returns : tie.Need-returns
 returns c = short _ (c .if1 .taken)
 
--- src/lib.rt:17:20
 cast-result : tie.Need-cast-result
 cast-result c = search needs
 
--- src/lib.rt:11:1
 returns-2 : tie.Need-returns-2
 returns-2 c = not-short _ (c .if1 .left)
 

@@ -8,35 +8,27 @@ use Rattle.header.proofs.marked.Tie as tie
 use Rattle.header.proofs.marked.Reads as reads
 use Rattle.header.proofs.marked.Lts as lts
 
--- src/lib.rt:26:14
 sub-if1 : tie.Need-sub-if1
 sub-if1 c = omega (arith, long-enough _ (c .pre .0))
 
--- src/lib.rt:26:8
 shared-slice-read-if1 : tie.Need-shared-slice-read-if1
 shared-slice-read-if1 c = omega (arith, long-enough _ (c .before .pre .0))
 
--- src/lib.rt:27:9
 returns : tie.Need-returns
 returns c = mark-first _ (c .if1 .taken)
 
--- src/lib.rt:29:14
 sub-if2 : tie.Need-sub-if2
 sub-if2 c = omega (arith, long-enough _ (c .before .before .pre .0))
 
--- src/lib.rt:29:8
 shared-slice-read-if2 : tie.Need-shared-slice-read-if2
 shared-slice-read-if2 c = omega (arith, long-enough _ (c .before .before .before .pre .0))
 
--- src/lib.rt:30:9
 returns-2 : tie.Need-returns-2
 returns-2 c = mark-second _ (c .before .before .if1 .left) (c .if2 .taken)
 
--- src/lib.rt:32:5
 cast-result : tie.Need-cast-result
 cast-result c = search needs
 
--- src/lib.rt:21:1
 returns-3 : tie.Need-returns-3
 returns-3 c = rw (c .before .before .before .before .before .pre .1) (mark-length _ (c .before .before .before .if1 .left) (c .before .if2 .left))
 

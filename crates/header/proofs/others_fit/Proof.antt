@@ -15,35 +15,27 @@ Inv-loop image i n t₀ t = Others image i t
 abbrev μ-loop : tie.MeasureT-loop
 μ-loop image i n t₀ t = n - t
 
--- src/lib.rt:84:5
 loop-holds : tie.Need-loop-holds Inv-loop μ-loop
 loop-holds c = others-begin (c .before .before .pre)
 
--- src/lib.rt:85:13
 size-requires : tie.Need-size-requires Inv-loop μ-loop
 size-requires c κs = record { located = c .before .before .before .before .pre; inside = omega (arith, types-are (c .before .before .before .before .pre)) }
 
--- src/lib.rt:87:13
 returns : tie.Need-returns Inv-loop μ-loop
 returns c = others-low (c .before .before .before .before .before .before .pre) (c .before .before .before .loop .inv) (omega arith) (c .before .size .ensures) (c .if1 .taken)
 
--- src/lib.rt:90:13
 returns-2 : tie.Need-returns-2 Inv-loop μ-loop
 returns-2 c = others-high (c .before .before .before .before .before .before .before .pre) (c .before .before .before .before .loop .inv) (omega arith) (c .before .before .size .ensures) (c .before .if1 .left) (c .if2 .taken)
 
--- src/lib.rt:92:9
 add-t : tie.Need-add-t Inv-loop μ-loop
 add-t c = search needs
 
--- src/lib.rt:84:5
 loop-less : tie.Need-loop-less Inv-loop μ-loop
 loop-less c = omega arith
 
--- src/lib.rt:84:5
 loop-again : tie.Need-loop-again Inv-loop μ-loop
 loop-again c = others-next (c .before .before .before .before .before .before .before .pre) (c .before .before .before .before .loop .inv) (omega arith) (c .before .before .size .ensures) (c .before .if1 .left) (c .if2 .left)
 
--- src/lib.rt:78:1
 returns-3 : tie.Need-returns-3 Inv-loop μ-loop
 returns-3 c = others-done (c .before .before .before .before .pre) (c .before .loop .inv) (omega arith)
 

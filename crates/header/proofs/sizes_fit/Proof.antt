@@ -9,27 +9,21 @@ use Rattle.header.proofs.sizes_fit.Lts as lts
 use Rattle.header.proofs.others_fit.Reads as others-fit-reads
 use Rattle.image.proofs.size.Reads as size-reads
 
--- src/lib.rt:101:8
 size-requires : tie.Need-size-requires
 size-requires c κs = bool-type (c .before .pre)
 
--- src/lib.rt:102:9
 returns : tie.Need-returns
 returns c = sizes-bool (c .before .before .before .pre) (c .before .size .ensures) (c .if1 .taken)
 
--- src/lib.rt:104:8
 size-requires-2 : tie.Need-size-requires-2
 size-requires-2 c κs = int-type (c .before .before .before .pre)
 
--- src/lib.rt:105:9
 returns-2 : tie.Need-returns-2
 returns-2 c = sizes-int (c .before .before .before .before .before .pre) (c .before .before .before .size .ensures) (c .before .before .if1 .left) (c .before .size2 .ensures) (c .if2 .taken)
 
--- src/lib.rt:107:5
 others-fit-requires : tie.Need-others-fit-requires
 others-fit-requires c κs = search needs
 
--- src/lib.rt:97:1
 returns-3 : tie.Need-returns-3
 returns-3 c = sizes-others (c .before .before .before .before .before .before .pre) (c .before .before .before .before .size .ensures) (c .before .before .before .if1 .left) (c .before .before .size2 .ensures) (c .before .if2 .left) (c .others-fit .ensures)
 

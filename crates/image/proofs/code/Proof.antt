@@ -9,23 +9,18 @@ use Rattle.image.proofs.code.Reads as reads
 use Rattle.image.proofs.code.Lts as lts
 use Rattle.words.proofs.half.Reads as half-reads
 
--- src/lib.rt:83:14
 cast-at : tie.Need-cast-at
 cast-at c = search needs
 
--- src/lib.rt:83:32
 mul-at : tie.Need-mul-at
 mul-at c = search needs
 
--- src/lib.rt:83:14
 add-at : tie.Need-add-at
 add-at c = search needs
 
--- src/lib.rt:84:5
 half-requires : tie.Need-half-requires
 half-requires c κs = omega (arith, row-inside (c .before .before .pre))
 
--- src/lib.rt:79:1
 returns : tie.Need-returns
 returns c = c .half .ensures ∙ sym (ap (λ (w : Fields). w .code) (row-read (c .before .before .before .pre)))
 

@@ -9,47 +9,36 @@ use Rattle.image.proofs.fields.Reads as reads
 use Rattle.image.proofs.fields.Lts as lts
 use Rattle.words.proofs.half.Reads as half-reads
 
--- src/lib.rt:69:14
 cast-at : tie.Need-cast-at
 cast-at c = search needs
 
--- src/lib.rt:69:32
 mul-at : tie.Need-mul-at
 mul-at c = search needs
 
--- src/lib.rt:69:14
 add-at : tie.Need-add-at
 add-at c = search needs
 
--- src/lib.rt:71:15
 half-requires : tie.Need-half-requires
 half-requires c κs = omega (arith, row-inside (c .before .before .pre))
 
--- src/lib.rt:72:24
 add-half : tie.Need-add-half
 add-half c = search needs
 
--- src/lib.rt:72:12
 half-requires-2 : tie.Need-half-requires-2
 half-requires-2 c κs = omega (arith, row-inside (c .before .before .before .pre))
 
--- src/lib.rt:73:24
 add-half-2 : tie.Need-add-half-2
 add-half-2 c = search needs
 
--- src/lib.rt:73:12
 half-requires-3 : tie.Need-half-requires-3
 half-requires-3 c κs = omega (arith, row-inside (c .before .before .before .before .pre))
 
--- src/lib.rt:74:24
 add-half-3 : tie.Need-add-half-3
 add-half-3 c = search needs
 
--- src/lib.rt:74:12
 half-requires-4 : tie.Need-half-requires-4
 half-requires-4 c κs = omega (arith, row-inside (c .before .before .before .before .before .pre))
 
--- src/lib.rt:65:1
 returns : tie.Need-returns
 returns c = rw (row-read (c .before .before .before .before .before .before .pre), ← c .before .before .before .half .ensures, ← c .before .before .half2 .ensures, ← c .before .half3 .ensures, ← c .half4 .ensures)
 

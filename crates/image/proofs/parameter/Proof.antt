@@ -10,27 +10,21 @@ use Rattle.image.proofs.parameter.Reads as reads
 use Rattle.image.proofs.parameter.Lts as lts
 use Rattle.words.proofs.half.Reads as half-reads
 
--- src/lib.rt:51:14
 cast-at : tie.Need-cast-at
 cast-at c = search needs
 
--- src/lib.rt:51:37
 mul-at : tie.Need-mul-at
 mul-at c = search needs
 
--- src/lib.rt:51:14
 add-at : tie.Need-add-at
 add-at c = search needs
 
--- src/lib.rt:51:14
 add-at-2 : tie.Need-add-at-2
 add-at-2 c = search needs
 
--- src/lib.rt:52:5
 half-requires : tie.Need-half-requires
 half-requires c κs = omega (arith, variable-inside (c .before .before .pre))
 
--- src/lib.rt:47:1
 returns : tie.Need-returns
 returns c = c .half .ensures ∙ sym (ap (λ (e : Entry). e .parameter) (variable-read (c .before .before .before .pre)))
 

@@ -9,15 +9,12 @@ use Rattle.image.proofs.size.Reads as reads
 use Rattle.image.proofs.size.Lts as lts
 use Rattle.words.proofs.half.Reads as half-reads
 
--- src/lib.rt:33:14
 mul-at : tie.Need-mul-at
 mul-at c = search needs
 
--- src/lib.rt:34:5
 half-requires : tie.Need-half-requires
 half-requires c κs = omega (arith, type-inside (c .before .pre))
 
--- src/lib.rt:29:1
 returns : tie.Need-returns
 returns c = c .half .ensures ∙ sym (type-read (c .before .before .pre))
 

@@ -9,23 +9,18 @@ use Rattle.image.proofs.state_row.Reads as reads
 use Rattle.image.proofs.state_row.Lts as lts
 use Rattle.words.proofs.half.Reads as half-reads
 
--- src/lib.rt:60:14
 cast-at : tie.Need-cast-at
 cast-at c = search needs
 
--- src/lib.rt:60:34
 mul-at : tie.Need-mul-at
 mul-at c = search needs
 
--- src/lib.rt:60:14
 add-at : tie.Need-add-at
 add-at c = search needs
 
--- src/lib.rt:61:5
 half-requires : tie.Need-half-requires
 half-requires c κs = omega (arith, state-inside (c .before .before .pre))
 
--- src/lib.rt:56:1
 returns : tie.Need-returns
 returns c = c .half .ensures ∙ sym (state-read (c .before .before .before .pre))
 

@@ -10,63 +10,48 @@ use Rattle.image.proofs.trailer.Reads as reads
 use Rattle.image.proofs.trailer.Lts as lts
 use Rattle.words.proofs.half.Reads as half-reads
 
--- src/lib.rt:16:14
 sub-at : tie.Need-sub-at
 sub-at c = search needs
 
--- src/lib.rt:18:16
 half-requires : tie.Need-half-requires
 half-requires c κs = search needs
 
--- src/lib.rt:19:32
 add-half : tie.Need-add-half
 add-half c = search needs
 
--- src/lib.rt:19:20
 half-requires-2 : tie.Need-half-requires-2
 half-requires-2 c κs = search needs
 
--- src/lib.rt:20:29
 add-half-2 : tie.Need-add-half-2
 add-half-2 c = search needs
 
--- src/lib.rt:20:17
 half-requires-3 : tie.Need-half-requires-3
 half-requires-3 c κs = search needs
 
--- src/lib.rt:21:27
 add-half-3 : tie.Need-add-half-3
 add-half-3 c = search needs
 
--- src/lib.rt:21:15
 half-requires-4 : tie.Need-half-requires-4
 half-requires-4 c κs = search needs
 
--- src/lib.rt:22:28
 add-half-4 : tie.Need-add-half-4
 add-half-4 c = search needs
 
--- src/lib.rt:22:16
 half-requires-5 : tie.Need-half-requires-5
 half-requires-5 c κs = search needs
 
--- src/lib.rt:23:32
 add-half-5 : tie.Need-add-half-5
 add-half-5 c = search needs
 
--- src/lib.rt:23:20
 half-requires-6 : tie.Need-half-requires-6
 half-requires-6 c κs = search needs
 
--- src/lib.rt:24:29
 add-half-6 : tie.Need-add-half-6
 add-half-6 c = search needs
 
--- src/lib.rt:24:17
 half-requires-7 : tie.Need-half-requires-7
 half-requires-7 c κs = search needs
 
--- src/lib.rt:12:1
 returns : tie.Need-returns
 unfolding trailerOf
 returns c = rw (c .before .before .before .before .before .before .half .ensures, c .before .before .before .before .before .half2 .ensures, c .before .before .before .before .half3 .ensures, c .before .before .before .half4 .ensures, c .before .before .half5 .ensures, c .before .half6 .ensures, c .half7 .ensures)

@@ -10,23 +10,18 @@ use Rattle.image.proofs.variable_type.Reads as reads
 use Rattle.image.proofs.variable_type.Lts as lts
 use Rattle.words.proofs.half.Reads as half-reads
 
--- src/lib.rt:42:14
 cast-at : tie.Need-cast-at
 cast-at c = search needs
 
--- src/lib.rt:42:37
 mul-at : tie.Need-mul-at
 mul-at c = search needs
 
--- src/lib.rt:42:14
 add-at : tie.Need-add-at
 add-at c = search needs
 
--- src/lib.rt:43:5
 half-requires : tie.Need-half-requires
 half-requires c κs = omega (arith, variable-inside (c .before .before .pre))
 
--- src/lib.rt:38:1
 returns : tie.Need-returns
 returns c = c .half .ensures ∙ sym (ap (λ (e : Entry). e .type) (variable-read (c .before .before .before .pre)))
 

@@ -3,33 +3,26 @@ use borrow.Author.Needs.{needs}
 use Rattle.machine.proofs.again.Statement.{statement}
 use Rattle.machine.proofs.again.Tie as tie
 
--- src/lib.rt:88:16
 enum-told : tie.Need-enum-told
 enum-told c = search needs
 
--- src/lib.rt:89:17
 stopped-requires : tie.Need-stopped-requires
 stopped-requires c κs = search needs
 
--- src/lib.rt:89:17
 returns : tie.Need-returns
 returns c =
     again-spent _ (c .before .before .before .enum-told .given .1) (c .before .if1 .taken) (c .stopped .ensures)
 
--- src/lib.rt:91:19
 charged-requires : tie.Need-charged-requires
 charged-requires c κs = search needs
 
--- src/lib.rt:91:13
 ended-requires : tie.Need-ended-requires
 ended-requires c κs = search needs
 
--- src/lib.rt:82:1
 returns-2 : tie.Need-returns-2
 returns-2 c =
     again-paid _ (c .before .before .before .before .enum-told .given .1) (c .before .before .if1 .left) (c .before .charged .ensures) (c .ended .ensures)
 
--- src/lib.rt:82:1
 returns-3 : tie.Need-returns-3
 returns-3 c =
     again-over _ (not-ends (c .before .args .q .out) (c .match .keys2))

@@ -3,29 +3,23 @@ use borrow.Author.Needs.{needs}
 use Rattle.machine.proofs.at_most.Statement.{statement}
 use Rattle.machine.proofs.at_most.Tie as tie
 
--- src/lib.rt:120:11
 value-requires : tie.Need-value-requires
 value-requires c κs = search needs
 
--- src/lib.rt:121:19
 enum-known-z : tie.Need-enum-known-z
 enum-known-z c = search needs
 
--- src/lib.rt:122:27
 enum-told : tie.Need-enum-told
 enum-told c = search needs
 
--- src/lib.rt:116:1
 returns : tie.Need-returns
 returns c =
     most-holds _ _ (c .before .before .before .before .value .ensures) (c .before .before .z .given .1) (held-most (c .before .before .z .given .0 .0) (c .before .before .before .before .before .args .high) (c .before .known-told .given .0 .1) (c .before .before .before .before .before .fits .high .sfits) (c .if1 .taken))
 
--- src/lib.rt:116:1
 returns-2 : tie.Need-returns-2
 returns-2 c =
     most-fails _ _ (c .before .before .before .before .value .ensures) (c .before .before .z .given .1) (held-most (c .before .before .z .given .0 .0) (c .before .before .before .before .before .args .high) (c .before .known-told .given .0 .1) (c .before .before .before .before .before .fits .high .sfits) (c .if1 .left))
 
--- src/lib.rt:116:1
 returns-3 : tie.Need-returns-3
 returns-3 c =
     most-unsure _ _ (c .before .before .value .ensures) (c .enum-told .given .1)

@@ -3,15 +3,12 @@ use Rattle.machine.proofs.Helpers.{stopped-as}
 use Rattle.machine.proofs.blocked.Statement.{statement}
 use Rattle.machine.proofs.blocked.Tie as tie
 
--- src/lib.rt:70:13
 blocked-at-requires : tie.Need-blocked-at-requires
 blocked-at-requires c κs = search needs
 
--- src/lib.rt:70:5
 stopped-requires : tie.Need-stopped-requires
 stopped-requires c κs = search needs
 
--- src/lib.rt:67:1
 returns : tie.Need-returns
 returns c = stopped-as _ (c .before .blocked-at .ensures) (c .stopped .ensures)
 

@@ -7,58 +7,45 @@ use borrow.Author.Needs.{needs}
 use Rattle.machine.proofs.onward.Statement.{statement}
 use Rattle.machine.proofs.onward.Tie as tie
 
--- src/lib.rt:104:38
 enum-told : tie.Need-enum-told
 enum-told c = search needs
 
--- src/lib.rt:104:32
 value-requires : tie.Need-value-requires
 value-requires c κs = search needs
 
--- src/lib.rt:105:23
 enum-known-z : tie.Need-enum-known-z
 enum-known-z c = search needs
 
--- src/lib.rt:106:37
 plus-requires : tie.Need-plus-requires
 plus-requires c κs =
     plus-range (c .before .before .before .before .before .before .before .pre) (c .before .before .before .before .before .enum-told .given .1) (c .before .before .before .value .ensures) (c .before .z .given .1)
 
--- src/lib.rt:106:17
 mul-t14 : tie.Need-mul-t14
 mul-t14 c = search needs
 
--- src/lib.rt:106:17
 slice-set-from-store : tie.Need-slice-set-from-store
 slice-set-from-store c = search needs
 
--- src/lib.rt:109:58
 enum-told-2 : tie.Need-enum-told-2
 enum-told-2 c = search needs
 
--- src/lib.rt:109:31
 stopped-requires : tie.Need-stopped-requires
 stopped-requires c κs = search needs
 
--- src/lib.rt:98:1
 same-length : tie.Need-same-length
 same-length c = search needs
 
--- src/lib.rt:98:1
 returns : tie.Need-returns
 returns c =
     onward-is _ _ (c .before .before .before .before .before .before .enum-told .given .1) (c .before .before .before .before .value .ensures) (c .before .before .z .given .1) (held-is (c .plus .result) (c .plus .ok) ∙ c .plus .ensures ∙ ap (λ (z : ℤ). plus half16 z (pos 1)) (value-held (c .before .before .before .before .before .before .before .before .pre) (c .before .before .before .before .before .before .enum-told .given .1) (c .before .before .before .before .value .ensures) (c .before .before .z .given .1)))
 
--- src/lib.rt:98:1
 same-length-2 : tie.Need-same-length-2
 same-length-2 c = search needs
 
--- src/lib.rt:98:1
 returns-2 : tie.Need-returns-2
 returns-2 c =
     onward-unknown _ _ (c .before .before .before .before .before .enum-told .given .1) (c .before .before .before .value .ensures) (c .before .enum-told2 .given .1) (c .stopped .ensures)
 
--- src/lib.rt:98:1
 returns-3 : tie.Need-returns-3
 returns-3 c =
     onward-over _ _ (not-ends (c .before .args .q .out) (c .match .keys2))

@@ -11,35 +11,27 @@ use Rattle.ntif.proofs.pack_verdict.Reads as pack-verdict-reads
 use Rattle.stages.proofs.judge.Reads as judge-reads
 use Rattle.words.proofs.put_masks.Reads as put-masks-reads
 
--- src/lib.rt:64:9
 judge-requires : tie.Need-judge-requires
 judge-requires c κs = search needs
 
--- src/lib.rt:66:32
 enum-told : tie.Need-enum-told
 enum-told c = search needs
 
--- src/lib.rt:66:32
 pack-verdict-requires : tie.Need-pack-verdict-requires
 pack-verdict-requires c κs = search needs
 
--- src/lib.rt:68:17
 enum-told-2 : tie.Need-enum-told-2
 enum-told-2 c = search needs
 
--- src/lib.rt:68:17
 trailer-requires : tie.Need-trailer-requires
 trailer-requires c κs = accepted-trailer _ _ (c .before .before .before .before .judge .ensures .verdict) (c .enum-told2 .given .1)
 
--- src/lib.rt:69:38
 sub-put-masks : tie.Need-sub-put-masks
 sub-put-masks c = states-order (accepted-rooted _ _ (c .before .before .before .before .before .before .before .before .judge .ensures .verdict) (c .before .before .before .before .enum-told2 .given .1) _ (c .before .before .before .trailer .ensures))
 
--- src/lib.rt:69:36
 cast-put-masks : tie.Need-cast-put-masks
 cast-put-masks c = search needs
 
--- src/lib.rt:69:13
 put-masks-requires : tie.Need-put-masks-requires
 put-masks-requires c κs =
     let v = c .before .before .before .before .before .before .before .before .judge .ensures .verdict in
@@ -47,28 +39,22 @@ put-masks-requires c κs =
     let n = accepted-count _ _ v e _ (c .before .before .before .trailer .ensures) in
     (omega (arith, n, accepted-most _ _ v e, c .before .before .before .before .before .before .before .before .before .before .before .before .before .pre), omega (arith, n, accepted-fits _ _ v e))
 
--- src/lib.rt:70:13
 pack-verdict-requires-2 : tie.Need-pack-verdict-requires-2
 pack-verdict-requires-2 c κs = search needs
 
--- src/lib.rt:60:1
 same-length : tie.Need-same-length
 same-length c = search needs
 
--- src/lib.rt:60:1
 returns : tie.Need-returns
 returns c =
     bytes-refused _ (c .before .before .before .before .before .before .before .before .before .before .args .sets .now) (λ j. omega (arith, c .before .before .before .before .before .before .before .before .slice-known .given j)) _ (c .before .before .before .before .before .judge .ensures .verdict) (c .before .enum-told .given .1) (c .pack-verdict .ensures)
 
--- src/lib.rt:60:1
 same-length-2 : tie.Need-same-length-2
 same-length-2 c = search needs
 
--- src/lib.rt:60:1
 same-length-3 : tie.Need-same-length-3
 same-length-3 c = search needs
 
--- src/lib.rt:60:1
 returns-2 : tie.Need-returns-2
 returns-2 c =
     let g = c .before .before .before .before .before .before .before .before .before .before .before .before .judge .ensures in

@@ -10,31 +10,24 @@ use Rattle.image.proofs.trailer.Reads as trailer-reads
 use Rattle.ntif.proofs.copy.Reads as copy-reads
 use Rattle.stages.proofs.judge.Reads as judge-reads
 
--- src/lib.rt:30:9
 judge-requires : tie.Need-judge-requires
 judge-requires c κs = search needs
 
--- src/lib.rt:32:32
 enum-told : tie.Need-enum-told
 enum-told c = search needs
 
--- src/lib.rt:34:17
 enum-told-2 : tie.Need-enum-told-2
 enum-told-2 c = search needs
 
--- src/lib.rt:34:17
 trailer-requires : tie.Need-trailer-requires
 trailer-requires c κs = accepted-trailer _ _ (c .before .before .before .before .judge .ensures .verdict) (c .enum-told2 .given .1)
 
--- src/lib.rt:35:33
 sub-copy : tie.Need-sub-copy
 sub-copy c = states-order (accepted-rooted _ _ (c .before .before .before .before .before .before .before .before .judge .ensures .verdict) (c .before .before .before .before .enum-told2 .given .1) _ (c .before .before .before .trailer .ensures))
 
--- src/lib.rt:35:31
 cast-copy : tie.Need-cast-copy
 cast-copy c = search needs
 
--- src/lib.rt:35:13
 copy-requires : tie.Need-copy-requires
 copy-requires c κs =
     let v = c .before .before .before .before .before .before .before .before .judge .ensures .verdict in
@@ -42,23 +35,18 @@ copy-requires c κs =
     let n = accepted-count _ _ v e _ (c .before .before .before .trailer .ensures) in
     (omega (arith, n, accepted-most _ _ v e, c .before .before .before .before .before .before .before .before .before .before .before .before .before .pre), omega (arith, n, accepted-fits _ _ v e))
 
--- src/lib.rt:26:1
 same-length : tie.Need-same-length
 same-length c = search needs
 
--- src/lib.rt:26:1
 returns : tie.Need-returns
 returns c = checked-refused _ _ _ (c .before .before .before .before .judge .ensures .verdict) (c .enum-told .given .1)
 
--- src/lib.rt:26:1
 same-length-2 : tie.Need-same-length-2
 same-length-2 c = search needs
 
--- src/lib.rt:26:1
 same-length-3 : tie.Need-same-length-3
 same-length-3 c = search needs
 
--- src/lib.rt:26:1
 returns-2 : tie.Need-returns-2
 returns-2 c =
     let g = c .before .before .before .before .before .before .before .before .before .before .before .judge .ensures in

@@ -15,46 +15,36 @@ Inv-loop sets₀ masks count i₀ sets i = (i ≤ count) × (length sets ≡ len
 abbrev μ-loop : tie.MeasureT-loop
 μ-loop sets₀ masks count i₀ sets i = count - i
 
--- src/lib.rt:18:5
 loop-holds : tie.Need-loop-holds Inv-loop μ-loop
 loop-holds c = (search needs, refl, refl)
 
--- src/lib.rt:19:19
 mul-sets : tie.Need-mul-sets Inv-loop μ-loop
 mul-sets c = search needs
 
--- src/lib.rt:19:19
 shared-slice-read-sets : tie.Need-shared-slice-read-sets Inv-loop μ-loop
 shared-slice-read-sets c = search needs
 
--- src/lib.rt:19:9
 mul-sets-2 : tie.Need-mul-sets-2 Inv-loop μ-loop
 mul-sets-2 c = search needs
 
--- src/lib.rt:19:9
 slice-write-sets : tie.Need-slice-write-sets Inv-loop μ-loop
 slice-write-sets c = search needs
 
--- src/lib.rt:20:9
 add-i : tie.Need-add-i Inv-loop μ-loop
 add-i c = search needs
 
--- src/lib.rt:18:5
 loop-less : tie.Need-loop-less Inv-loop μ-loop
 loop-less c = search needs
 
--- src/lib.rt:18:5
 loop-again : tie.Need-loop-again Inv-loop μ-loop
 loop-again c =
     let o = c .before .before in
     let a = c .before .before .before in
     (omega arith, length-set (o .loop .sets) (o .loop .i) _ ∙ o .loop .inv .1, copied-step (a .args .masks .now) (a .args .sets .now) (o .loop .sets) (o .loop .i) (omega arith) (omega arith) (o .loop .inv .2))
 
--- src/lib.rt:13:1
 same-length : tie.Need-same-length Inv-loop μ-loop
 same-length c = search needs
 
--- src/lib.rt:13:1
 returns : tie.Need-returns Inv-loop μ-loop
 returns c =
     let e : c .before .loop .i ≡ c .before .before .args .count = omega arith in

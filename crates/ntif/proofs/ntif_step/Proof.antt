@@ -9,47 +9,36 @@ use Rattle.ntif.proofs.ntif_step.Lts as lts
 use Rattle.ntif.proofs.capped.Reads as capped-reads
 use Rattle.ntif.proofs.step_bytes_on.Reads as step-bytes-on-reads
 
--- src/lib.rt:228:9
 capped-requires : tie.Need-capped-requires
 capped-requires c κs = search needs
 
--- src/lib.rt:229:37
 cast-capped : tie.Need-cast-capped
 cast-capped c = search needs
 
--- src/lib.rt:229:9
 capped-requires-2 : tie.Need-capped-requires-2
 capped-requires-2 c κs = search needs
 
--- src/lib.rt:230:59
 array-borrow-prefix-slots : tie.Need-array-borrow-prefix-slots
 array-borrow-prefix-slots c = search needs
 
--- src/lib.rt:230:59
 slice-aggregate-step-bytes-on : tie.Need-slice-aggregate-step-bytes-on
 slice-aggregate-step-bytes-on c = sym (length-take-le _ _ (omega (arith, c .before .before .before .before .capped .ensures)))
 
--- src/lib.rt:230:76
 array-borrow-prefix-ten : tie.Need-array-borrow-prefix-ten
 array-borrow-prefix-ten c = search needs
 
--- src/lib.rt:230:76
 slice-aggregate-step-bytes-on-2 : tie.Need-slice-aggregate-step-bytes-on-2
 slice-aggregate-step-bytes-on-2 c = sym (length-take-le _ _ (omega (arith, c .before .before .before .before .capped2 .ensures)))
 
--- src/lib.rt:230:5
 step-bytes-on-requires : tie.Need-step-bytes-on-requires
 step-bytes-on-requires c κs = (length-take-le _ _ (omega (arith, c .before .before .before .before .before .capped .ensures)) ∙ c .before .before .before .before .before .capped .ensures, length-take-le _ _ (omega (arith, c .before .before .before .before .capped2 .ensures)) ∙ c .before .before .before .before .capped2 .ensures)
 
--- src/lib.rt:215:1
 same-length : tie.Need-same-length
 same-length c = search needs
 
--- src/lib.rt:215:1
 same-length-2 : tie.Need-same-length-2
 same-length-2 c = search needs
 
--- src/lib.rt:215:1
 returns : tie.Need-returns
 returns c = search needs
 

@@ -7,43 +7,33 @@ use Rattle.ntif.proofs.pack_verdict.Lts as lts
 use Rattle.model.proofs.Refusal.number.Reads as number-reads
 use Rattle.model.proofs.Refusal.place.Reads as place-reads
 
--- src/lib.rt:75:30
 enum-told : tie.Need-enum-told
 enum-told c = search needs
 
--- src/lib.rt:76:26
 enum-known-v : tie.Need-enum-known-v
 enum-known-v c = search needs
 
--- src/lib.rt:76:32
 number-requires : tie.Need-number-requires
 number-requires c κs = search needs
 
--- src/lib.rt:76:32
 cast-result : tie.Need-cast-result
 cast-result c = search needs
 
--- src/lib.rt:76:52
 place-requires : tie.Need-place-requires
 place-requires c κs = search needs
 
--- src/lib.rt:76:52
 cast-result-2 : tie.Need-cast-result-2
 cast-result-2 c = search needs
 
--- src/lib.rt:76:52
 mul-result : tie.Need-mul-result
 mul-result c = search needs
 
--- src/lib.rt:76:32
 add-result : tie.Need-add-result
 add-result c = search needs
 
--- src/lib.rt:71:1
 returns : tie.Need-returns
 returns c = search needs
 
--- src/lib.rt:71:1
 returns-2 : tie.Need-returns-2
 returns-2 c = pack-refused _ (c .before .before .before .v .given .1) (c .before .number .ensures) (c .place .ensures)
 

@@ -7,16 +7,13 @@ use Rattle.ntif.proofs.state_of.Tie as tie
 use Rattle.ntif.proofs.state_of.Reads as reads
 use Rattle.ntif.proofs.state_of.Lts as lts
 
--- src/lib.rt:112:22
 cast-t3 : tie.Need-cast-t3
 cast-t3 c = search needs
 
--- src/lib.rt:112:9
 returns : tie.Need-returns
 returns c =
     ap state (omega (arith, c .if1 .taken))
 
--- src/lib.rt:108:1
 returns-2 : tie.Need-returns-2
 returns-2 c =
     ap state (omega (arith, c .if1 .left))

@@ -7,27 +7,21 @@ use Rattle.offers.proofs.accept.Lts as lts
 use Rattle.offers.proofs.emit.Reads as emit-reads
 use Rattle.offers.proofs.receive.Reads as receive-reads
 
--- src/lib.rt:92:9
 emit-requires : tie.Need-emit-requires
 emit-requires c κs = emission (c .before .before .before .before .before .pre) (c .before .if1 .taken)
 
--- src/lib.rt:92:9
 same-length : tie.Need-same-length
 same-length c = search needs
 
--- src/lib.rt:92:9
 returns : tie.Need-returns
 returns c = accepts-emission (c .before .before .before .before .before .before .pre) (c .before .before .if1 .taken) _ _ _ (c .emit .ensures)
 
--- src/lib.rt:94:5
 receive-requires : tie.Need-receive-requires
 receive-requires c κs = receipt (c .before .before .before .before .before .pre) (c .before .if1 .left)
 
--- src/lib.rt:79:1
 same-length-2 : tie.Need-same-length-2
 same-length-2 c = search needs
 
--- src/lib.rt:79:1
 returns-2 : tie.Need-returns-2
 returns-2 c = accepts-receipt (c .before .before .before .before .before .before .before .pre) (c .before .before .before .if1 .left) _ _ _ (c .before .receive .ensures)
 

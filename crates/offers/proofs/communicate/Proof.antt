@@ -6,23 +6,18 @@ use Rattle.offers.proofs.communicate.Reads as reads
 use Rattle.offers.proofs.communicate.Lts as lts
 use Rattle.offers.proofs.accept_all.Reads as accept-all-reads
 
--- src/lib.rt:158:9
 returns : tie.Need-returns
 returns c = said-twice _ _ _ _ _ (c .before .before .before .args .run) _ _ (c .if1 .taken)
 
--- src/lib.rt:163:5
 accept-all-requires : tie.Need-accept-all-requires
 accept-all-requires c κs = offers-ask (c .before .before .before .before .before .pre) (c .before .before .before .before .before .args .run) (c .before .before .if1 .left)
 
--- src/lib.rt:144:1
 same-length : tie.Need-same-length
 same-length c = search needs
 
--- src/lib.rt:144:1
 same-length-2 : tie.Need-same-length-2
 same-length-2 c = search needs
 
--- src/lib.rt:144:1
 returns-2 : tie.Need-returns-2
 returns-2 c = said-first _ _ _ _ _ (c .before .before .before .before .before .before .before .before .args .run) _ _ (c .before .before .before .before .before .if1 .left) (c .before .before .accept-all .ensures)
 

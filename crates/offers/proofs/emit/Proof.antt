@@ -6,23 +6,18 @@ use Rattle.offers.proofs.emit.Reads as reads
 use Rattle.offers.proofs.emit.Lts as lts
 use Rattle.expressions.proofs.eval.Reads as eval-reads
 
--- src/lib.rt:47:11
 eval-requires : tie.Need-eval-requires
 eval-requires c κs = search needs
 
--- src/lib.rt:48:19
 enum-known-z : tie.Need-enum-known-z
 enum-known-z c = search needs
 
--- src/lib.rt:49:63
 enum-told : tie.Need-enum-told
 enum-told c = search needs
 
--- src/lib.rt:43:1
 returns : tie.Need-returns
 returns c = emits-value (c .before .before .before .before .before .pre) (c .before .before .before .eval .ensures) _ _ (c .before .z .given .1)
 
--- src/lib.rt:43:1
 returns-2 : tie.Need-returns-2
 returns-2 c = emits-unknown (c .before .before .before .before .pre) (c .before .before .eval .ensures) _ _ (c .enum-told .given .1)
 

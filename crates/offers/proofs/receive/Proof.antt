@@ -15,91 +15,69 @@ use Rattle.image.proofs.size.Reads as size-reads
 use Rattle.patterns.proofs.matches.Reads as matches-reads
 use Rattle.typing.proofs.type_of_pattern.Reads as type-of-pattern-reads
 
--- src/lib.rt:66:28
 type-of-pattern-requires : tie.Need-type-of-pattern-requires
 type-of-pattern-requires c κs = pattern-asks (c .before .before .pre)
 
--- src/lib.rt:66:9
 size-requires : tie.Need-size-requires
 size-requires c κs = type-inside (c .before .before .before .pre) (c .type-of-pattern .ensures)
 
--- src/lib.rt:67:11
 read-word-requires : tie.Need-read-word-requires
 read-word-requires c κs = search needs
 
--- src/lib.rt:68:62
 enum-told : tie.Need-enum-told
 enum-told c = search needs
 
--- src/lib.rt:69:70
 enum-told-2 : tie.Need-enum-told-2
 enum-told-2 c = search needs
 
--- src/lib.rt:69:83
 add-t17 : tie.Need-add-t17
 add-t17 c = let i = word-inside _ _ _ (c .before .before .read-word .ensures) (λ e. let k : _≡_ {A = ℕ} 0 1 = cc in absurd (omega arith)) in search needs
 
--- src/lib.rt:70:20
 enum-known-z : tie.Need-enum-known-z
 enum-known-z c = search needs
 
--- src/lib.rt:70:32
 matches-requires : tie.Need-matches-requires
 matches-requires c κs = tries (c .before .before .before .before .before .before .before .before .before .pre) _ (c .before .before .before .before .before .before .before .before .before .args .place) _ (c .before .before .before .before .before .before .type-of-pattern .ensures) (c .before .before .before .before .before .size .ensures) (c .before .before .before .before .read-word .ensures) (c .before .before .z .given .1)
 
--- src/lib.rt:71:48
 enum-told-3 : tie.Need-enum-told-3
 enum-told-3 c = search needs
 
--- src/lib.rt:71:48
 add-t22 : tie.Need-add-t22
 add-t22 c = let i = word-inside _ _ _ (c .before .before .before .before .before .before .before .before .read-word .ensures) (λ e. let k : _≡_ {A = ℕ} 0 1 = cc in absurd (omega arith)) in search needs
 
--- src/lib.rt:72:64
 enum-told-4 : tie.Need-enum-told-4
 enum-told-4 c = search needs
 
--- src/lib.rt:72:77
 add-t25 : tie.Need-add-t25
 add-t25 c = let i = word-inside _ _ _ (c .before .before .before .before .before .before .before .before .read-word .ensures) (λ e. let k : _≡_ {A = ℕ} 0 1 = cc in absurd (omega arith)) in search needs
 
--- src/lib.rt:73:66
 enum-told-5 : tie.Need-enum-told-5
 enum-told-5 c = search needs
 
--- src/lib.rt:73:79
 add-t28 : tie.Need-add-t28
 add-t28 c = let i = word-inside _ _ _ (c .before .before .before .before .before .before .before .before .read-word .ensures) (λ e. let k : _≡_ {A = ℕ} 0 1 = cc in absurd (omega arith)) in search needs
 
--- src/lib.rt:54:1
 returns : tie.Need-returns
 returns c = receives-ended (c .before .before .before .before .before .before .before .pre) _ _ _ (c .before .before .before .before .type-of-pattern .ensures) (c .before .before .before .size .ensures) (c .before .before .read-word .ensures) (c .enum-told .given .1)
 
--- src/lib.rt:54:1
 returns-2 : tie.Need-returns-2
 returns-2 c = receives-out (c .before .before .before .before .before .before .before .pre) _ _ _ (c .before .before .before .before .type-of-pattern .ensures) (c .before .before .before .size .ensures) (c .before .before .read-word .ensures) (c .enum-told2 .given .1)
 
--- src/lib.rt:54:1
 same-length : tie.Need-same-length
 same-length c = search needs
 
--- src/lib.rt:54:1
 returns-3 : tie.Need-returns-3
 returns-3 c = receives-matched (c .before .before .before .before .before .before .before .before .before .before .before .before .before .pre) _ _ _ (c .before .before .before .before .before .before .before .before .before .before .type-of-pattern .ensures) (c .before .before .before .before .before .before .before .before .before .size .ensures) (c .before .before .before .before .before .before .before .before .read-word .ensures) (c .before .before .before .before .before .before .z .given .1) (c .before .before .before .matches .ensures) (c .enum-told3 .given .1)
 
--- src/lib.rt:54:1
 same-length-2 : tie.Need-same-length-2
 same-length-2 c = search needs
 
--- src/lib.rt:54:1
 returns-4 : tie.Need-returns-4
 returns-4 c = receives-failed (c .before .before .before .before .before .before .before .before .before .before .before .before .before .pre) _ _ _ (c .before .before .before .before .before .before .before .before .before .before .type-of-pattern .ensures) (c .before .before .before .before .before .before .before .before .before .size .ensures) (c .before .before .before .before .before .before .before .before .read-word .ensures) (c .before .before .before .before .before .before .z .given .1) (c .before .before .before .matches .ensures) (c .enum-told4 .given .1)
 
--- src/lib.rt:54:1
 same-length-3 : tie.Need-same-length-3
 same-length-3 c = search needs
 
--- src/lib.rt:54:1
 returns-5 : tie.Need-returns-5
 returns-5 c = receives-unsure (c .before .before .before .before .before .before .before .before .before .before .before .before .before .pre) _ _ _ (c .before .before .before .before .before .before .before .before .before .before .type-of-pattern .ensures) (c .before .before .before .before .before .before .before .before .before .size .ensures) (c .before .before .before .before .before .before .before .before .read-word .ensures) (c .before .before .before .before .before .before .z .given .1) (c .before .before .before .matches .ensures) (c .enum-told5 .given .1)
 

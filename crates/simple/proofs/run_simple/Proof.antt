@@ -12,74 +12,58 @@ use Rattle.actions.proofs.run_assign.Reads as run-assign-reads
 use Rattle.expressions.proofs.row.Reads as row-reads
 use Rattle.offers.proofs.communicate.Reads as communicate-reads
 
--- src/lib.rt:31:9
 row-requires : tie.Need-row-requires
 row-requires c κs =
     row-from refl (here (c .before .before .pre))
 
--- src/lib.rt:34:15
 run-assign-requires : tie.Need-run-assign-requires
 run-assign-requires c κs = search needs
 
--- src/lib.rt:35:15
 choose-requires : tie.Need-choose-requires
 choose-requires c κs = search needs
 
--- src/lib.rt:37:13
 reset-requires : tie.Need-reset-requires
 reset-requires c κs =
     reset-items (c .before .before .before .before .before .pre) (c .before .before .row .ensures) (c .before .match .keys3)
 
--- src/lib.rt:40:15
 communicate-requires : tie.Need-communicate-requires
 communicate-requires c κs = search needs
 
--- src/lib.rt:19:1
 same-length : tie.Need-same-length
 same-length c = search needs
 
--- src/lib.rt:19:1
 returns : tie.Need-returns
 returns c =
     assign-way (c .before .before .before .before .before .before .before .pre) (c .before .before .before .before .row .ensures) _ (c .before .before .before .match .keys1) (c .before .run-assign .ensures)
 
--- src/lib.rt:19:1
 same-length-2 : tie.Need-same-length-2
 same-length-2 c = search needs
 
--- src/lib.rt:19:1
 returns-2 : tie.Need-returns-2
 returns-2 c =
     choose-way (c .before .before .before .before .before .before .before .pre) (c .before .before .before .before .row .ensures) _ (c .before .before .before .match .keys2) (c .before .choose .ensures)
 
--- src/lib.rt:19:1
 same-length-3 : tie.Need-same-length-3
 same-length-3 c = search needs
 
--- src/lib.rt:19:1
 returns-3 : tie.Need-returns-3
 returns-3 c =
     reset-way (c .before .before .before .before .before .before .before .pre) (c .before .before .before .before .row .ensures) (c .before .before .before .before .before .before .before .args .run) _ (c .before .before .before .match .keys3) (c .before .reset .ensures)
 
--- src/lib.rt:19:1
 same-length-4 : tie.Need-same-length-4
 same-length-4 c = search needs
 
--- src/lib.rt:19:1
 same-length-5 : tie.Need-same-length-5
 same-length-5 c = search needs
 
--- src/lib.rt:19:1
 returns-4 : tie.Need-returns-4
 returns-4 c =
     communicate-way (c .before .before .before .before .before .before .before .before .before .pre) (c .before .before .before .before .before .before .row .ensures) _ _ (c .before .before .before .before .before .match .keys4) (c .before .before .communicate .ensures)
 
--- src/lib.rt:19:1
 returns-5 : tie.Need-returns-5
 returns-5 c =
     to-way (c .before .before .before .before .pre) (c .before .row .ensures) (c .before .before .before .before .args .run) _ (c .match .keys5)
 
--- src/lib.rt:19:1
 returns-6 : tie.Need-returns-6
 returns-6 c =
     let k = c .match .rest in

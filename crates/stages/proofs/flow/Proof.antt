@@ -8,39 +8,30 @@ use Rattle.stages.proofs.flow.Lts as lts
 use Rattle.stages.proofs.found.Reads as found-reads
 use Rattle.speech.proofs.speech_verdict.Reads as speech-verdict-reads
 
--- src/lib.rt:68:9
 found-requires : tie.Need-found-requires
 found-requires c κs = search needs
 
--- src/lib.rt:70:32
 enum-told : tie.Need-enum-told
 enum-told c = search needs
 
--- src/lib.rt:71:55
 enum-told-2 : tie.Need-enum-told-2
 enum-told-2 c = search needs
 
--- src/lib.rt:71:30
 speech-verdict-requires : tie.Need-speech-verdict-requires
 speech-verdict-requires c κs = search needs
 
--- src/lib.rt:55:1
 same-length : tie.Need-same-length
 same-length c = search needs
 
--- src/lib.rt:55:1
 returns : tie.Need-returns
 returns c = flow-stays _ _ (c .before .before .before .before .found .ensures) (c .enum-told .given .1)
 
--- src/lib.rt:55:1
 same-length-2 : tie.Need-same-length-2
 same-length-2 c = search needs
 
--- src/lib.rt:55:1
 same-length-3 : tie.Need-same-length-3
 same-length-3 c = search needs
 
--- src/lib.rt:55:1
 returns-2 : tie.Need-returns-2
 returns-2 c = flow-speech _ _ (c .before .before .before .before .before .before .before .before .found .ensures) (c .before .before .before .before .enum-told2 .given .1) (c .before .before .speech-verdict .ensures)
 

@@ -7,27 +7,21 @@ use Rattle.stages.proofs.found.Reads as reads
 use Rattle.stages.proofs.found.Lts as lts
 use Rattle.sets.proofs.sets_verdict.Reads as sets-verdict-reads
 
--- src/lib.rt:47:17
 sub-if1 : tie.Need-sub-if1
 sub-if1 c = states-order (c .before .before .before .before .before .before .pre .rooted)
 
--- src/lib.rt:47:15
 cast-if1 : tie.Need-cast-if1
 cast-if1 c = search needs
 
--- src/lib.rt:48:9
 returns : tie.Need-returns
 returns c = found-short _ _ (c .before .before .before .before .before .before .before .pre .rooted) (c .if1 .taken)
 
--- src/lib.rt:50:5
 sets-verdict-requires : tie.Need-sets-verdict-requires
 sets-verdict-requires c κs = to-sets (c .before .before .before .before .before .before .before .before .pre)
 
--- src/lib.rt:43:1
 same-length : tie.Need-same-length
 same-length c = search needs
 
--- src/lib.rt:43:1
 returns-2 : tie.Need-returns-2
 returns-2 c = found-sets _ _ _ _ (c .before .before .before .before .before .before .before .before .before .before .before .pre .rooted) (c .before .before .before .before .if1 .left) (c .before .before .sets-verdict .ensures)
 

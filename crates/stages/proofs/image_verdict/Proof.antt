@@ -8,31 +8,24 @@ use Rattle.image.proofs.trailer.Reads as trailer-reads
 use Rattle.stages.proofs.rules_sized.Reads as rules-sized-reads
 use Rattle.stages.proofs.tables.Reads as tables-reads
 
--- src/lib.rt:248:9
 tables-requires : tie.Need-tables-requires
 tables-requires c κs = search needs
 
--- src/lib.rt:250:32
 enum-told : tie.Need-enum-told
 enum-told c = search needs
 
--- src/lib.rt:252:17
 enum-told-2 : tie.Need-enum-told-2
 enum-told-2 c = search needs
 
--- src/lib.rt:252:17
 trailer-requires : tie.Need-trailer-requires
 trailer-requires c κs = trailer-there _ (c .before .before .tables .ensures) (c .enum-told2 .given .1)
 
--- src/lib.rt:253:13
 rules-sized-requires : tie.Need-rules-sized-requires
 rules-sized-requires c κs = to-ruling (rooted-there _ _ (c .trailer .ensures) (c .before .before .before .tables .ensures) (c .before .enum-told2 .given .1))
 
--- src/lib.rt:245:1
 returns : tie.Need-returns
 returns c = image-stays _ _ (c .before .before .tables .ensures) (c .enum-told .given .1)
 
--- src/lib.rt:245:1
 returns-2 : tie.Need-returns-2
 returns-2 c = image-rules _ _ (c .before .before .before .before .tables .ensures) (c .before .before .enum-told2 .given .1) (c .rules-sized .ensures)
 

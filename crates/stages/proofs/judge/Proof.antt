@@ -8,35 +8,27 @@ use Rattle.image.proofs.trailer.Reads as trailer-reads
 use Rattle.stages.proofs.sized.Reads as sized-reads
 use Rattle.stages.proofs.tables.Reads as tables-reads
 
--- src/lib.rt:161:9
 tables-requires : tie.Need-tables-requires
 tables-requires c κs = search needs
 
--- src/lib.rt:163:32
 enum-told : tie.Need-enum-told
 enum-told c = search needs
 
--- src/lib.rt:165:17
 enum-told-2 : tie.Need-enum-told-2
 enum-told-2 c = search needs
 
--- src/lib.rt:165:17
 trailer-requires : tie.Need-trailer-requires
 trailer-requires c κs = trailer-there _ (c .before .before .tables .ensures) (c .enum-told2 .given .1)
 
--- src/lib.rt:166:13
 sized-requires : tie.Need-sized-requires
 sized-requires c κs = to-sized (rooted-there _ _ (c .before .trailer .ensures) (c .before .before .before .before .tables .ensures) (c .before .before .enum-told2 .given .1)) (c .before .before .before .before .before .before .before .pre)
 
--- src/lib.rt:157:1
 returns : tie.Need-returns
 returns c = judge-stays _ _ _ _ (c .before .before .tables .ensures) (c .enum-told .given .1)
 
--- src/lib.rt:157:1
 same-length : tie.Need-same-length
 same-length c = search needs
 
--- src/lib.rt:157:1
 returns-2 : tie.Need-returns-2
 returns-2 c = judge-trees _ _ _ (c .before .before .before .before .before .before .before .tables .ensures) (c .before .before .before .before .before .enum-told2 .given .1) (c .before .before .sized .ensures)
 

@@ -9,55 +9,42 @@ use Rattle.binding.proofs.binding_verdict.Reads as binding-verdict-reads
 use Rattle.masks.proofs.fill.Reads as fill-reads
 use Rattle.typing.proofs.typing_verdict.Reads as typing-verdict-reads
 
--- src/lib.rt:33:5
 fill-requires : tie.Need-fill-requires
 fill-requires c κs = search needs
 
--- src/lib.rt:34:9
 typing-verdict-requires : tie.Need-typing-verdict-requires
 typing-verdict-requires c κs = search needs
 
--- src/lib.rt:36:32
 enum-told : tie.Need-enum-told
 enum-told c = search needs
 
--- src/lib.rt:37:56
 enum-told-2 : tie.Need-enum-told-2
 enum-told-2 c = search needs
 
--- src/lib.rt:37:30
 binding-verdict-requires : tie.Need-binding-verdict-requires
 binding-verdict-requires c κs = search needs
 
--- src/lib.rt:29:1
 same-length : tie.Need-same-length
 same-length c = search needs
 
--- src/lib.rt:29:1
 same-length-2 : tie.Need-same-length-2
 same-length-2 c = search needs
 
--- src/lib.rt:29:1
 same-length-3 : tie.Need-same-length-3
 same-length-3 c = search needs
 
--- src/lib.rt:29:1
 returns : tie.Need-returns
 returns c = record { verdict = rules-stays _ _ _ (c .before .before .typing-verdict .ensures) (c .enum-told .given .1); filled = c .before .before .before .before .before .before .before .before .before .fill .ensures }
 
--- src/lib.rt:29:1
 same-length-4 : tie.Need-same-length-4
 same-length-4 c = search needs
 
--- src/lib.rt:29:1
 same-length-5 : tie.Need-same-length-5
 same-length-5 c = search needs
 
--- src/lib.rt:29:1
 same-length-6 : tie.Need-same-length-6
 same-length-6 c = search needs
 
--- src/lib.rt:29:1
 returns-2 : tie.Need-returns-2
 returns-2 c = record { verdict = rules-binding _ _ (sym (c .before .before .before .before .before .typing-verdict .ensures) ∙ c .before .before .before .enum-told2 .given .1) (c .binding-verdict .ensures); filled = c .before .before .before .before .before .before .before .before .before .before .before .before .fill .ensures }
 

@@ -9,31 +9,24 @@ use Rattle.header.proofs.header.Reads as header-reads
 use Rattle.image.proofs.trailer.Reads as trailer-reads
 use Rattle.rows.proofs.rows_verdict.Reads as rows-verdict-reads
 
--- src/lib.rt:18:9
 header-requires : tie.Need-header-requires
 header-requires c κs = search needs
 
--- src/lib.rt:20:32
 enum-told : tie.Need-enum-told
 enum-told c = search needs
 
--- src/lib.rt:22:17
 enum-told-2 : tie.Need-enum-told-2
 enum-told-2 c = search needs
 
--- src/lib.rt:22:17
 trailer-requires : tie.Need-trailer-requires
 trailer-requires c κs = trailer-inside _ (sym (c .before .before .header .ensures) ∙ c .enum-told2 .given .1)
 
--- src/lib.rt:23:13
 rows-verdict-requires : tie.Need-rows-verdict-requires
 rows-verdict-requires c κs = located-of _ _ (c .trailer .ensures) (sym (c .before .before .before .header .ensures) ∙ c .before .enum-told2 .given .1)
 
--- src/lib.rt:15:1
 returns : tie.Need-returns
 returns c = tables-stays _ _ _ (c .before .before .header .ensures) (c .enum-told .given .1)
 
--- src/lib.rt:15:1
 returns-2 : tie.Need-returns-2
 returns-2 c = tables-rows _ _ (sym (c .before .before .before .before .header .ensures) ∙ c .before .before .enum-told2 .given .1) (c .rows-verdict .ensures)
 

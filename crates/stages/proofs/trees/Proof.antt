@@ -8,59 +8,45 @@ use Rattle.stages.proofs.trees.Lts as lts
 use Rattle.stages.proofs.flow.Reads as flow-reads
 use Rattle.stages.proofs.rules.Reads as rules-reads
 
--- src/lib.rt:90:9
 rules-requires : tie.Need-rules-requires
 rules-requires c κs = search needs
 
--- src/lib.rt:92:32
 enum-told : tie.Need-enum-told
 enum-told c = search needs
 
--- src/lib.rt:93:51
 enum-told-2 : tie.Need-enum-told-2
 enum-told-2 c = search needs
 
--- src/lib.rt:93:30
 flow-requires : tie.Need-flow-requires
 flow-requires c κs = search needs
 
--- src/lib.rt:77:1
 same-length : tie.Need-same-length
 same-length c = search needs
 
--- src/lib.rt:77:1
 same-length-2 : tie.Need-same-length-2
 same-length-2 c = search needs
 
--- src/lib.rt:77:1
 same-length-3 : tie.Need-same-length-3
 same-length-3 c = search needs
 
--- src/lib.rt:77:1
 returns : tie.Need-returns
 returns c = trees-stays _ _ _ (c .before .before .before .before .before .before .before .before .rules .ensures) (c .enum-told .given .1)
 
--- src/lib.rt:77:1
 same-length-4 : tie.Need-same-length-4
 same-length-4 c = search needs
 
--- src/lib.rt:77:1
 same-length-5 : tie.Need-same-length-5
 same-length-5 c = search needs
 
--- src/lib.rt:77:1
 same-length-6 : tie.Need-same-length-6
 same-length-6 c = search needs
 
--- src/lib.rt:77:1
 same-length-7 : tie.Need-same-length-7
 same-length-7 c = search needs
 
--- src/lib.rt:77:1
 same-length-8 : tie.Need-same-length-8
 same-length-8 c = search needs
 
--- src/lib.rt:77:1
 returns-2 : tie.Need-returns-2
 returns-2 c = trees-flow _ _ (c .before .before .before .before .before .before .before .before .before .before .before .before .before .before .before .before .before .before .rules .ensures) (c .before .before .before .before .before .before .before .before .before .before .enum-told2 .given .1) (c .before .before .before .before .flow .ensures)
 

@@ -9,35 +9,28 @@ use Rattle.stepping.proofs.run_step.Reads as reads
 use Rattle.stepping.proofs.run_step.Lts as lts
 use Rattle.stepping.proofs.step_on.Reads as step-on-reads
 
--- src/lib.rt:146:56
 array-borrow-prefix-work : tie.Need-array-borrow-prefix-work
 array-borrow-prefix-work c =
     store-few (c .before .before .before .before .pre)
 
--- src/lib.rt:146:56
 slice-aggregate-step-on : tie.Need-slice-aggregate-step-on
 slice-aggregate-step-on c =
     let l = store-few (c .before .before .before .before .before .pre) in simp length-take (omega (arith, l))
 
--- src/lib.rt:146:72
 slice-aggregate-step-on-2 : tie.Need-slice-aggregate-step-on-2
 slice-aggregate-step-on-2 c = search needs
 
--- src/lib.rt:146:5
 step-on-requires : tie.Need-step-on-requires
 step-on-requires c κs =
     let l = store-few (c .before .before .before .before .before .before .pre) in
     to-steps _ _ (c .before .before .before .before .before .before .pre) (simp length-take (omega (arith, l))) refl
 
--- src/lib.rt:131:1
 same-length : tie.Need-same-length
 same-length c = search needs
 
--- src/lib.rt:131:1
 same-length-2 : tie.Need-same-length-2
 same-length-2 c = search needs
 
--- src/lib.rt:131:1
 returns : tie.Need-returns
 returns c = search needs
 

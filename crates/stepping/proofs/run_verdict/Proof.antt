@@ -7,63 +7,50 @@ use Rattle.stepping.proofs.run_verdict.Reads as reads
 use Rattle.stepping.proofs.run_verdict.Lts as lts
 use Rattle.stepping.proofs.slots_verdict.Reads as slots-verdict-reads
 
--- src/lib.rt:63:9
 sub-if1 : tie.Need-sub-if1
 sub-if1 c =
     states-order (c .before .before .pre)
 
--- src/lib.rt:64:9
 returns : tie.Need-returns
 returns c =
     no-state (c .before .before .before .before .pre) (c .before .before .before .before .args .q) (c .before .before .before .before .args .store .now) (c .before .before .before .before .args .budget) (c .before .before .before .before .args .label .now) (c .if1 .taken)
 
--- src/lib.rt:66:25
 sub-if2 : tie.Need-sub-if2
 sub-if2 c =
     variables-order (c .before .before .before .before .before .pre)
 
--- src/lib.rt:66:23
 cast-if2 : tie.Need-cast-if2
 cast-if2 c = search needs
 
--- src/lib.rt:67:9
 returns-2 : tie.Need-returns-2
 returns-2 c =
     store-wrong (c .before .before .before .before .before .before .pre) (c .before .before .before .before .before .before .args .q) (c .before .before .before .before .before .before .args .store .now) (c .before .before .before .before .before .before .args .budget) (c .before .before .before .before .before .before .args .label .now) (omega (arith, c .before .before .if1 .left)) (c .if2 .taken)
 
--- src/lib.rt:69:9
 slots-verdict-requires : tie.Need-slots-verdict-requires
 slots-verdict-requires c κs =
     slotted (c .before .before .before .before .before .before .pre) (c .before .before .before .before .before .before .args .q) _ 0 (c .before .before .before .before .before .before .args .label .now) (omega (arith, c .before .before .if1 .left)) (c .if2 .left)
 
--- src/lib.rt:71:32
 enum-told : tie.Need-enum-told
 enum-told c = search needs
 
--- src/lib.rt:73:16
 enum-told-2 : tie.Need-enum-told-2
 enum-told-2 c = search needs
 
--- src/lib.rt:73:30
 cast-if3 : tie.Need-cast-if3
 cast-if3 c = search needs
 
--- src/lib.rt:74:17
 returns-3 : tie.Need-returns-3
 returns-3 c =
     label-short (c .before .before .before .before .before .before .before .before .before .before .pre) (c .before .before .before .before .before .before .before .before .before .before .args .q) (c .before .before .before .before .before .before .before .before .before .before .args .store .now) (c .before .before .before .before .before .before .before .before .before .before .args .budget) (c .before .before .before .before .before .before .before .before .before .before .args .label .now) (omega (arith, c .before .before .before .before .before .before .if1 .left)) (c .before .before .before .before .if2 .left) (c .before .before .before .slots-verdict .ensures) (c .before .enum-told2 .given .1) (c .if3 .taken)
 
--- src/lib.rt:77:17
 returns-4 : tie.Need-returns-4
 returns-4 c =
     budget-over (c .before .before .before .before .before .before .before .before .before .before .before .pre) (c .before .before .before .before .before .before .before .before .before .before .before .args .q) (c .before .before .before .before .before .before .before .before .before .before .before .args .store .now) (c .before .before .before .before .before .before .before .before .before .before .before .args .budget) (c .before .before .before .before .before .before .before .before .before .before .before .args .label .now) (omega (arith, c .before .before .before .before .before .before .before .if1 .left)) (c .before .before .before .before .before .if2 .left) (c .before .before .before .before .slots-verdict .ensures) (c .before .before .enum-told2 .given .1) (omega (arith, c .before .if3 .left)) (c .if4 .taken)
 
--- src/lib.rt:59:1
 returns-5 : tie.Need-returns-5
 returns-5 c =
     slot-wrong (c .before .before .before .before .before .before .before .before .before .pre) (c .before .before .before .before .before .before .before .before .before .args .q) (c .before .before .before .before .before .before .before .before .before .args .store .now) (c .before .before .before .before .before .before .before .before .before .args .budget) (c .before .before .before .before .before .before .before .before .before .args .label .now) (omega (arith, c .before .before .before .before .before .if1 .left)) (c .before .before .before .if2 .left) _ (c .before .before .slots-verdict .ensures) (c .enum-told .given .1)
 
--- src/lib.rt:59:1
 returns-6 : tie.Need-returns-6
 returns-6 c =
     nothing-wrong (c .before .before .before .before .before .before .before .before .before .before .before .pre) (c .before .before .before .before .before .before .before .before .before .before .before .args .q) (c .before .before .before .before .before .before .before .before .before .before .before .args .store .now) (c .before .before .before .before .before .before .before .before .before .before .before .args .budget) (c .before .before .before .before .before .before .before .before .before .before .before .args .label .now) (omega (arith, c .before .before .before .before .before .before .before .if1 .left)) (c .before .before .before .before .before .if2 .left) (c .before .before .before .before .slots-verdict .ensures) (c .before .before .enum-told2 .given .1) (omega (arith, c .before .if3 .left)) (omega (arith, c .if4 .left))

@@ -9,34 +9,27 @@ use Rattle.image.proofs.size.Reads as size-reads
 use Rattle.image.proofs.variable_type.Reads as variable-type-reads
 use Rattle.values.proofs.of_size.Reads as of-size-reads
 
--- src/lib.rt:35:13
 mul-z : tie.Need-mul-z
 mul-z c = search needs
 
--- src/lib.rt:35:13
 shared-slice-copy-out-z : tie.Need-shared-slice-copy-out-z
 shared-slice-copy-out-z c = search needs
 
--- src/lib.rt:37:9
 returns : tie.Need-returns
 returns c =
     slot-undefined (c .before .before .before .pre) refl (c .before .z .given) (c .if1 .taken)
 
--- src/lib.rt:39:34
 variable-type-requires : tie.Need-variable-type-requires
 variable-type-requires c κs =
     variable-there (c .before .before .before .pre)
 
--- src/lib.rt:39:19
 size-requires : tie.Need-size-requires
 size-requires c κs =
     type-there (c .before .before .before .before .pre) (c .variable-type .ensures)
 
--- src/lib.rt:39:5
 of-size-requires : tie.Need-of-size-requires
 of-size-requires c κs = search needs
 
--- src/lib.rt:31:1
 returns-2 : tie.Need-returns-2
 returns-2 c =
     slot-judged (c .before .before .before .before .before .before .pre) refl (c .before .before .before .before .z .given) (c .before .before .before .if1 .left) (c .before .before .variable-type .ensures) (c .before .size .ensures) (c .of-size .ensures)

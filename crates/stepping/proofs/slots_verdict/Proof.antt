@@ -20,42 +20,34 @@ abbrev μ-loop : tie.MeasureT-loop
 μ-loop image i store n v₀ v =
     n - v
 
--- src/lib.rt:47:14
 sub-n : tie.Need-sub-n Inv-loop μ-loop
 sub-n c =
     variables-order (c .before .before .pre .imaged)
 
--- src/lib.rt:49:5
 loop-holds : tie.Need-loop-holds Inv-loop μ-loop
 loop-holds c =
     (omega arith, none-yet (c .before .before .pre))
 
--- src/lib.rt:50:13
 slot-fits-requires : tie.Need-slot-fits-requires Inv-loop μ-loop
 slot-fits-requires c κs =
     record { slotted = c .before .before .before .before .pre; inside = omega (arith, c .loop-test .taken, c .before .before .before .before .pre .size, count-is (c .before .before .before .before .pre .imaged)) }
 
--- src/lib.rt:51:13
 returns : tie.Need-returns Inv-loop μ-loop
 returns c =
     wrong-here (c .before .before .before .before .before .before .pre) _ (c .before .before .loop-test .taken) (c .before .before .before .loop .inv .1) (c .before .slot-fits .ensures) (c .if1 .taken)
 
--- src/lib.rt:53:9
 add-v : tie.Need-add-v Inv-loop μ-loop
 add-v c =
     search needs
 
--- src/lib.rt:49:5
 loop-less : tie.Need-loop-less Inv-loop μ-loop
 loop-less c =
     search needs
 
--- src/lib.rt:49:5
 loop-again : tie.Need-loop-again Inv-loop μ-loop
 loop-again c =
     (omega (arith, c .before .before .loop-test .taken), one-more (c .before .before .before .before .before .before .pre) _ (c .before .before .before .loop .inv .1) (c .before .slot-fits .ensures) (c .if1 .left))
 
--- src/lib.rt:43:1
 returns-2 : tie.Need-returns-2 Inv-loop μ-loop
 returns-2 c =
     all-fit (c .before .before .before .before .pre) (c .before .loop .v) (omega (arith, c .before .loop .inv .0, c .loop-test .left)) (c .before .loop .inv .1)

@@ -12,42 +12,33 @@ use Rattle.finishing.proofs.finish.Reads as finish-reads
 use Rattle.image.proofs.state_row.Reads as state-row-reads
 use Rattle.stepping.proofs.try_step.Reads as try-step-reads
 
--- src/lib.rt:125:5
 copy-requires : tie.Need-copy-requires
 copy-requires c κs = search needs
 
--- src/lib.rt:126:9
 try-step-requires : tie.Need-try-step-requires
 try-step-requires c κs =
     to-try (c .before .before .before .before .before .before .before .before .pre) _ _ (c .before .before .before .copy .ensures) (omega (arith, c .before .before .before .before .before .before .before .before .pre .room))
 
--- src/lib.rt:127:9
 state-row-requires : tie.Need-state-row-requires
 state-row-requires c κs =
     state-there (to-try (c .before .before .before .before .before .before .before .before .before .before .before .pre) (c .before .before .before .before .before .before .before .before .before .before .before .args .store .now) (c .before .before .before .before .before .before .before .before .before .before .before .args .values .now) refl (c .before .before .before .before .before .before .before .before .before .before .before .pre .room))
 
--- src/lib.rt:128:5
 finish-requires : tie.Need-finish-requires
 finish-requires c κs =
     record { slots = omega (arith, c .before .before .before .before .before .before .before .before .before .before .before .before .before .before .before .before .pre .copy); room = label-there (c .before .before .before .before .before .before .before .before .before .before .before .before .before .before .before .before .pre); offers = omega (arith, c .before .before .before .before .before .before .before .before .before .before .before .before .before .before .before .before .pre .room); units = units-fit (c .before .before .before .before .before .before .before .before .before .before .before .before .before .before .before .before .pre) (c .before .before .before .before .before .before .before .before .before .before .before .before .before .before .before .before .args .script .now) (c .before .before .before .before .before .before .before .before .before .before .before .copy .last .0) (c .before .before .before .before .before .before .before .before .before .before .before .copy .ensures) (c .before .before .before .before .before .before .before .try-step .result) (c .before .before .before .before .before .before .before .try-step .last .1 .1 .1 .0) (c .before .before .before .before .before .before .before .try-step .last .1 .1 .1 .1 .1 .0) (c .before .before .before .before .before .before .before .try-step .ensures); words = words-fit (c .before .before .before .before .before .before .before .before .before .before .before .before .before .before .before .before .pre) (c .before .before .before .before .before .before .before .before .before .before .before .before .before .before .before .before .args .script .now) (c .before .before .before .before .before .before .before .before .before .before .before .copy .last .0) (c .before .before .before .before .before .before .before .before .before .before .before .copy .ensures) (c .before .before .before .before .before .before .before .try-step .result) (c .before .before .before .before .before .before .before .try-step .last .1 .1 .1 .0) (c .before .before .before .before .before .before .before .try-step .last .1 .1 .1 .1 .1 .0) (c .before .before .before .before .before .before .before .try-step .ensures) }
 
--- src/lib.rt:111:1
 same-length : tie.Need-same-length
 same-length c = search needs
 
--- src/lib.rt:111:1
 same-length-2 : tie.Need-same-length-2
 same-length-2 c = search needs
 
--- src/lib.rt:111:1
 same-length-3 : tie.Need-same-length-3
 same-length-3 c = search needs
 
--- src/lib.rt:111:1
 same-length-4 : tie.Need-same-length-4
 same-length-4 c = search needs
 
--- src/lib.rt:111:1
 returns : tie.Need-returns
 returns c =
     ran-is (c .before .before .before .before .before .before .before .before .before .before .before .before .before .before .before .before .before .before .before .pre) (c .before .before .before .before .before .before .before .before .before .before .before .before .before .before .before .before .before .before .before .args .script .now) (c .before .before .before .before .before .before .before .before .before .before .before .before .before .before .copy .last .0) (c .before .before .before .before .before .before .before .before .before .before .try-step .last .1 .1 .1 .0) (c .before .before .before .before .before .before .before .before .before .before .try-step .last .1 .1 .1 .1 .1 .0) (c .before .before .before .before .before .before .before .before .before .before .try-step .result) (c .before .before .before .before .before .before .before .before .before .before .before .before .before .before .copy .ensures) (c .before .before .before .before .before .before .before .before .before .before .try-step .ensures) (c .before .before .before .before .before .before .before .state-row .ensures) (c .before .before .finish .ensures)

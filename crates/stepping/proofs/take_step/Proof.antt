@@ -11,68 +11,53 @@ use Rattle.stages.proofs.image_verdict.Reads as image-verdict-reads
 use Rattle.stepping.proofs.run_step.Reads as run-step-reads
 use Rattle.stepping.proofs.run_verdict.Reads as run-verdict-reads
 
--- src/lib.rt:160:9
 image-verdict-requires : tie.Need-image-verdict-requires
 image-verdict-requires c κs = search needs
 
--- src/lib.rt:162:26
 enum-known-v : tie.Need-enum-known-v
 enum-known-v c = search needs
 
--- src/lib.rt:164:17
 enum-told : tie.Need-enum-told
 enum-told c = search needs
 
--- src/lib.rt:164:17
 trailer-requires : tie.Need-trailer-requires
 trailer-requires c κs =
     image-long _ (c .before .before .image-verdict .ensures) (c .enum-told .given .1)
 
--- src/lib.rt:165:17
 run-verdict-requires : tie.Need-run-verdict-requires
 run-verdict-requires c κs =
     to-imaged (λ j. omega (arith, c .before .before .before .before .before .before .before .shared-slice-known .given j)) (c .before .before .before .before .before .image-verdict .ensures) (c .before .before .before .enum-told .given .1) (c .before .before .trailer .ensures)
 
--- src/lib.rt:167:34
 enum-known-u : tie.Need-enum-known-u
 enum-known-u c = search needs
 
--- src/lib.rt:168:60
 enum-told-2 : tie.Need-enum-told-2
 enum-told-2 c = search needs
 
--- src/lib.rt:168:38
 run-step-requires : tie.Need-run-step-requires
 run-step-requires c κs =
     to-runs (to-imaged (λ j. omega (arith, c .before .before .before .before .before .before .before .before .before .before .before .before .shared-slice-known .given j)) (c .before .before .before .before .before .before .before .before .before .before .image-verdict .ensures) (c .before .before .before .before .before .before .before .before .enum-told .given .1) (c .before .before .before .before .before .before .before .trailer .ensures)) (c .before .before .before .before .run-verdict .ensures) (c .before .before .enum-told2 .given .1)
 
--- src/lib.rt:150:1
 returns : tie.Need-returns
 returns c =
     image-refuses (c .before .before .before .before .before .before .args .image .now) (c .before .before .before .before .before .before .args .q) (c .before .before .before .before .before .before .args .store .now) (c .before .before .before .before .before .before .args .script .now) (c .before .before .before .before .before .before .args .budget) (c .before .before .before .before .before .before .args .label .now) _ (c .before .before .before .image-verdict .ensures) (c .before .v .given .1)
 
--- src/lib.rt:150:1
 same-length : tie.Need-same-length
 same-length c = search needs
 
--- src/lib.rt:150:1
 same-length-2 : tie.Need-same-length-2
 same-length-2 c = search needs
 
--- src/lib.rt:150:1
 returns-2 : tie.Need-returns-2
 returns-2 c =
     run-refuses (c .before .before .before .before .before .before .before .before .before .before .before .before .args .image .now) (c .before .before .before .before .before .before .before .before .before .before .before .before .args .q) (c .before .before .before .before .before .before .before .before .before .before .before .before .args .store .now) (c .before .before .before .before .before .before .before .before .before .before .before .before .args .script .now) (c .before .before .before .before .before .before .before .before .before .before .before .before .args .budget) (c .before .before .before .before .before .before .before .before .before .before .before .before .args .label .now) (c .before .before .before .before .before .before .before .before .before .image-verdict .ensures) (c .before .before .before .before .before .before .before .enum-told .given .1) _ (c .before .before .before .run-verdict .ensures) (c .before .u .given .1)
 
--- src/lib.rt:150:1
 same-length-3 : tie.Need-same-length-3
 same-length-3 c = search needs
 
--- src/lib.rt:150:1
 same-length-4 : tie.Need-same-length-4
 same-length-4 c = search needs
 
--- src/lib.rt:150:1
 returns-3 : tie.Need-returns-3
 returns-3 c =
     step-runs (c .before .before .before .before .before .before .before .before .before .before .before .before .before .before .before .before .args .image .now) (c .before .before .before .before .before .before .before .before .before .before .before .before .before .before .before .before .args .q) (c .before .before .before .before .before .before .before .before .before .before .before .before .before .before .before .before .args .store .now) (c .before .before .before .before .before .before .before .before .before .before .before .before .before .before .before .before .args .script .now) (c .before .before .before .before .before .before .before .before .before .before .before .before .before .before .before .before .args .budget) (c .before .before .before .before .before .before .before .before .before .before .before .before .before .before .before .before .args .label .now) (c .before .before .before .before .before .before .before .before .before .before .before .before .before .image-verdict .ensures) (c .before .before .before .before .before .before .before .before .before .before .before .enum-told .given .1) (sym (c .before .before .before .before .before .before .before .run-verdict .ensures) ∙ c .before .before .before .before .before .enum-told2 .given .1) (c .before .before .run-step .ensures)

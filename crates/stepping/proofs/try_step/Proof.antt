@@ -7,25 +7,20 @@ use Rattle.stepping.proofs.try_step.Lts as lts
 use Rattle.image.proofs.state_row.Reads as state-row-reads
 use Rattle.machine.proofs.run_action.Reads as run-action-reads
 
--- src/lib.rt:97:9
 state-row-requires : tie.Need-state-row-requires
 state-row-requires c κs =
     state-there (c .before .before .pre)
 
--- src/lib.rt:98:5
 run-action-requires : tie.Need-run-action-requires
 run-action-requires c κs =
     runs-there (c .before .before .before .before .before .pre) (c .before .before .state-row .ensures)
 
--- src/lib.rt:85:1
 same-length : tie.Need-same-length
 same-length c = search needs
 
--- src/lib.rt:85:1
 same-length-2 : tie.Need-same-length-2
 same-length-2 c = search needs
 
--- src/lib.rt:85:1
 returns : tie.Need-returns
 returns c =
     tries (c .before .before .before .before .before .before .before .before .pre) _ (c .before .before .before .before .before .state-row .ensures) (c .before .before .run-action .ensures)
