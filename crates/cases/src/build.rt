@@ -24,7 +24,7 @@ pub enum Length {
     Bad,
 }
 
-pub fn build(s: Reading, image: &mut [u8]) -> Length {
+pub(crate) fn build(s: Reading, image: &mut [u8]) -> Length {
     let at = s.trailer;
     if s.bad || s.section != 5 {
         return Length::Bad;
@@ -43,7 +43,7 @@ pub fn build(s: Reading, image: &mut [u8]) -> Length {
 }
 
 // The number of states, whose masks an accepted image has.
-pub fn states(s: Reading) -> usize {
+pub(crate) fn states(s: Reading) -> usize {
     let start = s.states;
     let end = s.rows;
     if end < start {

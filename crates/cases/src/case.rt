@@ -130,7 +130,7 @@ fn line(text: &[u8]) {
 }
 
 // Every line; the last one may lack its newline.
-pub fn lines(text: &[u8]) {
+pub(crate) fn lines(text: &[u8]) {
     let mut at = 0;
     while at < text.len() {
         let end = find(text, at, b'\n');
@@ -140,7 +140,7 @@ pub fn lines(text: &[u8]) {
 }
 
 // An image of zeros, with room for all states.
-pub fn zeros(length: usize) {
+pub(crate) fn zeros(length: usize) {
     let image = [0u8; IMAGE];
     let mut sets = [OLD; SETS];
     io::write_all(1, b"zeros of length");

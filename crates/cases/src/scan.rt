@@ -23,7 +23,7 @@ pub struct Reading {
 }
 
 impl Reading {
-    pub fn new() -> Self {
+    pub(crate) fn new() -> Self {
         Reading {
             section: 0,
             open: false,
@@ -172,7 +172,7 @@ impl Reading {
 }
 
 // A case's sections, from a place of its line on.
-pub fn sections(line: &[u8], from: usize, image: &mut [u8]) -> Reading {
+pub(crate) fn sections(line: &[u8], from: usize, image: &mut [u8]) -> Reading {
     let mut s = Reading::new();
     let mut i = from;
     while i < line.len() {

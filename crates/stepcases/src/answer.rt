@@ -4,7 +4,7 @@ use model::Move;
 use model::Refusal;
 use values::size;
 
-pub fn text(bytes: &[u8]) {
+pub(crate) fn text(bytes: &[u8]) {
     io::write_all(STDOUT_FILENO, bytes);
 }
 
@@ -35,7 +35,7 @@ fn word(n: i32) {
 }
 
 // Words behind a bar, as many as said.
-pub fn words(s: &[i32], count: usize) {
+pub(crate) fn words(s: &[i32], count: usize) {
     let mut i = 0;
     text(b" |");
     while i < count && i < s.len() {
@@ -44,12 +44,12 @@ pub fn words(s: &[i32], count: usize) {
     }
 }
 
-pub fn refused(y: Refusal) {
+pub(crate) fn refused(y: Refusal) {
     unsigned(y.number() as u32);
     unsigned(y.place() as u32);
 }
 
-pub fn moved(m: Move) {
+pub(crate) fn moved(m: Move) {
     let next = m.next;
     text(b" moved");
     unsigned(next.0 as u32);
@@ -58,7 +58,7 @@ pub fn moved(m: Move) {
 }
 
 // Words from a place on that had to stay.
-pub fn stays(s: &[i32], before: &[i32], from: usize) {
+pub(crate) fn stays(s: &[i32], before: &[i32], from: usize) {
     let mut i = from;
     while i < s.len() && i < before.len() {
         if s[i] != before[i] {

@@ -24,7 +24,7 @@ pub enum Length {
     Bad,
 }
 
-pub fn build(s: Reading, image: &mut [u8]) -> Length {
+pub(crate) fn build(s: Reading, image: &mut [u8]) -> Length {
     let at = s.trailer;
     if s.bad || s.section != 8 {
         return Length::Bad;

@@ -152,7 +152,7 @@ fn call(
 }
 
 // A line's case, its name already written. All buffers are new for each, so that no case sees another.
-pub fn case(line: &[u8], from: usize, section: u16) {
+pub(crate) fn case(line: &[u8], from: usize, section: u16) {
     let mut image = [0u8; IMAGE];
     let mut given = [0u8; GIVEN];
     let mut store = [OLD; WORDS];

@@ -72,7 +72,7 @@ fn line(text: &[u8]) {
 }
 
 // Every line; the last one may lack its newline.
-pub fn lines(text: &[u8]) {
+pub(crate) fn lines(text: &[u8]) {
     let mut at = 0;
     while at < text.len() {
         let end = find(text, at, b'\n');

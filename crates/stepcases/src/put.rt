@@ -2,14 +2,14 @@
 use values::round;
 
 // The low byte of n.
-pub fn byte(bytes: &mut [u8], at: usize, n: u32) {
+pub(crate) fn byte(bytes: &mut [u8], at: usize, n: u32) {
     if at < bytes.len() {
         bytes[at] = (n % 256) as u8;
     }
 }
 
 // n in two bytes, the low one first.
-pub fn word(bytes: &mut [u8], at: usize, n: u32) {
+pub(crate) fn word(bytes: &mut [u8], at: usize, n: u32) {
     if at < bytes.len() {
         byte(bytes, at, n);
         byte(bytes, at + 1, n / 256);
@@ -25,7 +25,7 @@ fn quad(bytes: &mut [u8], at: usize, n: u32) {
 }
 
 // n in one byte, in two or in four.
-pub fn bytes_of(bytes: &mut [u8], at: usize, n: u32, count: usize) {
+pub(crate) fn bytes_of(bytes: &mut [u8], at: usize, n: u32, count: usize) {
     match count {
         1 => byte(bytes, at, n),
         2 => word(bytes, at, n),
@@ -34,14 +34,14 @@ pub fn bytes_of(bytes: &mut [u8], at: usize, n: u32, count: usize) {
 }
 
 // A start or a length, which fits 16 bits in every image that is not too long.
-pub fn size(bytes: &mut [u8], at: usize, n: usize) {
+pub(crate) fn size(bytes: &mut [u8], at: usize, n: usize) {
     if n < 65536 {
         word(bytes, at, n as u32);
     }
 }
 
 // n as a signed number, a word of the store.
-pub fn slot(store: &mut [i32], at: usize, n: u32) {
+pub(crate) fn slot(store: &mut [i32], at: usize, n: u32) {
     if at < store.len() {
         store[at] = round(2147483648, true, n);
     }

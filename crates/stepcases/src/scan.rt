@@ -32,7 +32,7 @@ pub struct Reading {
 }
 
 impl Reading {
-    pub fn new(section: u16) -> Self {
+    pub(crate) fn new(section: u16) -> Self {
         Reading {
             section: section,
             open: false,
@@ -268,7 +268,7 @@ fn wide(b: u8) -> u32 {
 }
 
 // A case's sections, from a place of its line on.
-pub fn sections(
+pub(crate) fn sections(
     line: &[u8],
     from: usize,
     section: u16,

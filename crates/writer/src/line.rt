@@ -5,7 +5,7 @@ use model::Refusal;
 use model::State;
 use values::size;
 
-pub fn text(bytes: &[u8]) {
+pub(crate) fn text(bytes: &[u8]) {
     io::write_all(STDOUT_FILENO, bytes);
 }
 
@@ -56,7 +56,7 @@ fn label(words: &[i32]) {
     text(b"\n");
 }
 
-pub fn moved(q: State, m: Move, words: &[i32]) {
+pub(crate) fn moved(q: State, m: Move, words: &[i32]) {
     let next = m.next;
     unsigned(q.0 as u32, b" ");
     unsigned(next.0 as u32, b" ");
@@ -65,12 +65,12 @@ pub fn moved(q: State, m: Move, words: &[i32]) {
     label(words);
 }
 
-pub fn refused(y: Refusal) {
+pub(crate) fn refused(y: Refusal) {
     unsigned(y.number() as u32, b" ");
     unsigned(y.place() as u32, b"\n");
 }
 
-pub fn store(words: &[i32]) {
+pub(crate) fn store(words: &[i32]) {
     text(b"store");
     some(words, 0, words.len());
     text(b"\n");

@@ -60,7 +60,7 @@ fn steps(image: &[u8], store: &mut [i32], label: &mut [i32]) {
     }
 }
 
-pub fn table_writer(image: &[u8]) {
+pub(crate) fn table_writer(image: &[u8]) {
     let params = [Q; 1];
     let mut store = [0i32; VARIABLES];
     let mut label = [0i32; Image::LABEL as usize];
