@@ -58,8 +58,8 @@ const HALF: u16 = 32768;
 // The mark of an undefined variable.
 const UNDEFINED: i32 = 65536;
 
-// Is every item's value known? Only then are they stored, after all are evaluated.
-pub fn assign(image: &[u8], rows: u16, r: u16, store: &mut [i32]) -> bool
+// Is every item's value known? Only then are they stored, after all are evaluated: on the way out.
+fn assign_all(image: &[u8], rows: u16, r: u16, store: &mut [i32]) -> bool
     requires { ⌜ Items gets (now image) rows r (now store) ⌝ }
     ensures { λ d. ⌜ record { done = d; store = now (store .exit) } ≡ assigns (tablesOf (now (image .entry))) (getsAt (tablesOf (now (image .entry))) r) (now (store .entry)) ⌝ }
 {
@@ -70,11 +70,32 @@ pub fn assign(image: &[u8], rows: u16, r: u16, store: &mut [i32]) -> bool
     match eval(image, rows, w.b, store) {
         Value::Unknown => false,
         Value::Is(z) => {
-            let done = assign(image, rows, w.c, store);
+            let done = assign_all(image, rows, w.c, store);
             if done {
                 store[w.a as usize] = z;
             }
             done
+        }
+    }
+}
+
+// The same; an item alone, as most are, needs no call.
+pub fn assign(image: &[u8], rows: u16, r: u16, store: &mut [i32]) -> bool
+    requires { ⌜ Items gets (now image) rows r (now store) ⌝ }
+    ensures { λ d. ⌜ record { done = d; store = now (store .exit) } ≡ assigns (tablesOf (now (image .entry))) (getsAt (tablesOf (now (image .entry))) r) (now (store .entry)) ⌝ }
+{
+    if r == NONE {
+        return true;
+    }
+    let w = row(image, rows, r);
+    if w.c != NONE {
+        return assign_all(image, rows, r, store);
+    }
+    match eval(image, rows, w.b, store) {
+        Value::Unknown => false,
+        Value::Is(z) => {
+            store[w.a as usize] = z;
+            true
         }
     }
 }

@@ -1,3 +1,4 @@
+pub mod Numbers
 pub mod Operated
 pub mod Rows
 pub mod Ways

@@ -3,7 +3,7 @@ use mathlib.Core.{Path._≡_, Bool.true, List.List}
 use Prim.Native.Nat.{ℕ, _<_}
 use lib.IntN.{ℤ}
 use Rattle.model.specs.declared.{Verdict.the-variants.Accepted}
-use Rattle.model.specs.Image.{trailerOf, tablesOf, rowCount}
+use Rattle.model.specs.Image.{trailerOf, tablesOf, rowCount, fieldsOf}
 use Rattle.model.specs.Rows.{Kind, expression, isKind}
 use Rattle.model.specs.Calls.{imageVerdict}
 use Rattle.image.specs.Located.{Located}
@@ -27,3 +27,9 @@ pub record Runs (k : Kind) (s : List ℕ) (rows r : ℕ) (m : List ℤ) : Type 0
   pub ready : Ready s m
   pub start : rows ≡ trailerOf s .rows
   pub kind : isKind (tablesOf s) k r ≡ true
+
+-- and an operator's row: neither a variable's nor a constant's
+pub record Applies (s : List ℕ) (rows r : ℕ) (m : List ℤ) : Type 0 where
+  pub runs : Runs expression s rows r m
+  pub not-variable : fieldsOf (tablesOf s) r .code ≡ 1 → ⊥
+  pub not-constant : fieldsOf (tablesOf s) r .code ≡ 2 → ⊥

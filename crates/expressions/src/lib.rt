@@ -9,7 +9,7 @@ ghost use Rattle.model.specs.Rows.{expression};
 ghost use Rattle.model.specs.Decode.{expressionAt};
 ghost use Rattle.model.specs.Run.{applyUnary, applyBinary, eval, test};
 ghost use Rattle.expressions.specs.Operators.{unaryOf, binaryOf, valueOf, constantBy};
-ghost use Rattle.expressions.specs.Ready.{RowFrom, Runs};
+ghost use Rattle.expressions.specs.Ready.{RowFrom, Runs, Applies};
 use model::Fields;
 use model::Tested;
 use model::Value;
@@ -45,16 +45,22 @@ pub fn row(image: &[u8], rows: u16, r: u16) -> Fields
     }
 }
 
+// A number that may be the mark, as a value.
+pub fn known(z: i32) -> Value
+    ensures { λ r. ⌜ r ≡ valueOf z ⌝ }
+{
+    if z == UNDEFINED {
+        return Value::Unknown;
+    }
+    Value::Is(z)
+}
+
 // A variable's value.
 pub fn value(store: &[i32], v: u16) -> Value
     requires { ⌜ v < length (now store) ⌝ }
     ensures { λ r. ⌜ r ≡ valueOf (getD (now (store .entry)) v (mark half16)) ⌝ }
 {
-    let z = store[v as usize];
-    if z == UNDEFINED {
-        return Value::Unknown;
-    }
-    Value::Is(z)
+    known(store[v as usize])
 }
 
 // The value of a constant of type a.
@@ -95,7 +101,53 @@ fn binary(code: u16, a: i32, b: i32) -> i32
     }
 }
 
-// The value of an expression; and, or evaluate both operands.
+// An operator's value, or the mark where an operand is unknown; and, or evaluate both operands.
+fn applied(image: &[u8], rows: u16, r: u16, store: &[i32]) -> i32
+    requires { ⌜ Applies (now image) rows r (now store) ⌝ }
+    ensures { λ z. ⌜ valueOf z ≡ eval (tablesOf (now (image .entry))) (expressionAt (tablesOf (now (image .entry))) r) (now (store .entry)) ⌝ }
+{
+    let w = row(image, rows, r);
+    let a = operand(image, rows, w.a, store);
+    if a == UNDEFINED {
+        return UNDEFINED;
+    }
+    let code = w.code;
+    match code {
+        16 | 19 => unary(code, a),
+        _ => {
+            let b = operand(image, rows, w.b, store);
+            if b == UNDEFINED {
+                return UNDEFINED;
+            }
+            binary(code, a, b)
+        }
+    }
+}
+
+// The same, on slices made anew: handed on as they came they'd be copied in one piece, and each call would wait until
+// the two halves that its caller wrote are in memory.
+fn apply(image: &[u8], rows: u16, r: u16, store: &[i32]) -> i32
+    requires { ⌜ Applies (now image) rows r (now store) ⌝ }
+    ensures { λ z. ⌜ valueOf z ≡ eval (tablesOf (now (image .entry))) (expressionAt (tablesOf (now (image .entry))) r) (now (store .entry)) ⌝ }
+{
+    applied(&image[0..], rows, r, &store[0..])
+}
+
+// An operand's value, or the mark: a variable or a constant is read here, so that only operators are calls.
+fn operand(image: &[u8], rows: u16, r: u16, store: &[i32]) -> i32
+    requires { ⌜ Runs expression (now image) rows r (now store) ⌝ }
+    ensures { λ z. ⌜ valueOf z ≡ eval (tablesOf (now (image .entry))) (expressionAt (tablesOf (now (image .entry))) r) (now (store .entry)) ⌝ }
+{
+    let w = row(image, rows, r);
+    let code = w.code;
+    match code {
+        1 => store[w.a as usize],
+        2 => constant(w.a, w.b),
+        _ => apply(image, rows, r, store),
+    }
+}
+
+// The value of an expression.
 pub fn eval(image: &[u8], rows: u16, r: u16, store: &[i32]) -> Value
     requires { ⌜ Runs expression (now image) rows r (now store) ⌝ }
     ensures { λ v. ⌜ v ≡ eval (tablesOf (now (image .entry))) (expressionAt (tablesOf (now (image .entry))) r) (now (store .entry)) ⌝ }
@@ -105,17 +157,7 @@ pub fn eval(image: &[u8], rows: u16, r: u16, store: &[i32]) -> Value
     match code {
         1 => value(store, w.a),
         2 => Value::Is(constant(w.a, w.b)),
-        16 | 19 => match eval(image, rows, w.a, store) {
-            Value::Is(a) => Value::Is(unary(code, a)),
-            Value::Unknown => Value::Unknown,
-        },
-        _ => match eval(image, rows, w.a, store) {
-            Value::Is(a) => match eval(image, rows, w.b, store) {
-                Value::Is(b) => Value::Is(binary(code, a, b)),
-                Value::Unknown => Value::Unknown,
-            },
-            Value::Unknown => Value::Unknown,
-        },
+        _ => known(apply(image, rows, r, store)),
     }
 }
 

@@ -1,24 +1,18 @@
 -- The definitions' cases as the code reaches them, by its tests. Assumes nothing.
 use mathlib.Core.{Path._≡_, Path.refl, Path.sym, Path.ap, Path._∙_, Bool.Bool, Bool.true, Bool.false, Bool.not, Bool._&&_}
-use Prim.Native.Nat.{ℕ, zero, suc, _+_, _-_, _%_, _^_, _≤_, _<_}
+use Prim.Native.Nat.{ℕ, zero, suc, _+_, _-_, _^_, _≤_, _<_}
 use native.Mathlib.Omega.{arith}
-use lib.{Dec.ltb, IntN.ℤ, IntN.pos, IntN.negsuc, Signed.mag, Signed.nonNeg, Signed.leZ}
+use lib.{Dec.ltb, IntN.ℤ, IntN.pos, IntN.negsuc, Signed.mag, Signed.nonNeg}
 use borrow.Author.Tests.{lt-ltb, le-ltb, ne-eqb}
 use mir.{Syntax.w32, Val.toZ, Val.ofZ}
-use Rattle.model.specs.Values.{side, round, wrap, isZero, ofSize}
-use Rattle.values.proofs.Sizes.{le-sign}
-use Rattle.values.proofs.Held.{held, held-is}
+use Rattle.model.specs.Values.{side, round, isZero, ofSize}
+use Rattle.values.proofs.Held.{held-is}
 
 pub round-low : (h m : ℕ) (s : Bool) → m < h → side s m ≡ round h s m
 round-low h m s p = rw (lt-ltb m h p)
 
 pub round-high : (h m : ℕ) (s : Bool) → h ≤ m → m < h + h → side (not s) (h - 1 - (m - h)) ≡ round h s m
 round-high h m s p q = rw (le-ltb m h p) (ap (side (not s)) (omega arith))
-
--- n being the size, and r what is returned
-pub wrap-round : (h : ℕ) (z : ℤ) {n : ℕ} {r : ℤ} → mag z < 2 ^ 31 → mag r < 2 ^ 31 → n ≡ mag (held z) → r ≡ round h (leZ (pos 0) (held z)) (n % (h + h)) → held r ≡ wrap h z
-unfolding wrap
-wrap-round h z {n} {r} p q e f = held-is r q ∙ f ∙ rw (e, held-is z p, le-sign)
 
 pub ofSize-other : (h n : ℕ) (z : ℤ) → (n ≡ 0 → ⊥) → ofSize h n z ≡ (nonNeg z && ltb (mag z) n)
 unfolding ofSize

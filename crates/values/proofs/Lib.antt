@@ -1,3 +1,4 @@
+pub mod Wrapping
 pub mod Sizes
 pub mod Held
 pub mod Computed

@@ -39,6 +39,10 @@ mag-quot (pos a) (negsuc b) = neg-pos (a / suc b) (omega (arith, div-le-self a (
 mag-quot (negsuc a) (pos b) = neg-pos (suc a / b) (omega (arith, div-le-self (suc a) b))
 mag-quot (negsuc a) (negsuc b) = omega (arith, div-le-self (suc a) (suc b))
 
+pub mag-quot-pos : (a : ℤ) (n : ℕ) → mag (quotZ a (pos n)) ≤ mag a
+mag-quot-pos (pos a) n = div-le-self a n
+mag-quot-pos (negsuc a) n = neg-pos (suc a / n) (div-le-self (suc a) n)
+
 -- -1 - z, which takes n to -(n + 1) and back
 abbrev pub flip : ℤ → ℤ
 flip (pos n) = negsuc n

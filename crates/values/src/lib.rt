@@ -33,12 +33,14 @@ pub fn round(h: u32, s: bool, m: u32) -> i32
     }
 }
 
+// Moved up by h and a multiple of n, a remainder is where it wraps to: no branch, which the machine would guess.
 pub fn wrap(half: u16, z: i32) -> i32
     requires { ⌜ Half half ⌝ }
     ensures { λ r. ⌜ r ≡ wrap half z ⌝ }
 {
-    let h = half as u32;
-    round(h, 0 <= z, size(z) % (h + h))
+    let h = half as i32;
+    let n = h + h;
+    (z % n + n + h) % n - h
 }
 
 pub fn negate(half: u16, a: i32) -> i32
@@ -112,5 +114,5 @@ pub fn signed(half: u16, n: u16) -> i32
     requires { ⌜ Half half × (n < half + half) ⌝ }
     ensures { λ r. ⌜ r ≡ signed half n ⌝ }
 {
-    round(half as u32, true, n as u32)
+    wrap(half, n as i32)
 }

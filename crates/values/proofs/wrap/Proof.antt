@@ -1,29 +1,32 @@
 -- `values::wrap` meets its contract. Assumes nothing.
-use Prim.Native.Nat.{_+_}
 use borrow.Author.Needs.{needs}
-use native.Mathlib.{Nat.mod-lt, Omega.arith}
-use Rattle.values.proofs.Computed.{wrap-round}
+use Rattle.values.proofs.Wrapping.{twice-fits, some-n, quotient-fits, higher-fits, highest-fits, last-quotient-fits, ends-fits, wraps}
 use Rattle.values.proofs.wrap.Statement.{statement}
 use Rattle.values.proofs.wrap.Tie as tie
 
-size-requires : tie.Need-size-requires
-size-requires c κs = search needs
+cast-h : tie.Need-cast-h
+cast-h c = search needs
 
-add-round : tie.Need-add-round
-add-round c = search needs
+add-n : tie.Need-add-n
+add-n c = twice-fits (c .args .half) (c .args .z) (c .pre) (c .fits .z .sfits)
 
-rem-round : tie.Need-rem-round
-rem-round c = search needs
+rem-result : tie.Need-rem-result
+rem-result c = (some-n (c .args .half) (c .args .z) (c .pre) (c .fits .z .sfits), quotient-fits (c .args .half) (c .args .z) (c .pre) (c .fits .z .sfits))
 
-round-requires : tie.Need-round-requires
-round-requires c κs =
-    let o = c .before in
-    (search needs, mod-lt (c .size .result) {m = o .args .half + o .args .half} (omega arith))
+add-result : tie.Need-add-result
+add-result c = higher-fits (c .args .half) (c .args .z) (c .pre) (c .fits .z .sfits)
+
+add-result-2 : tie.Need-add-result-2
+add-result-2 c = highest-fits (c .args .half) (c .args .z) (c .pre) (c .fits .z .sfits)
+
+rem-result-2 : tie.Need-rem-result-2
+rem-result-2 c = (some-n (c .args .half) (c .args .z) (c .pre) (c .fits .z .sfits), last-quotient-fits (c .args .half) (c .args .z) (c .pre) (c .fits .z .sfits))
+
+sub-result : tie.Need-sub-result
+sub-result c = ends-fits (c .args .half) (c .args .z) (c .pre) (c .fits .z .sfits)
 
 returns : tie.Need-returns
-returns c =
-    let o = c .before .before in
-    wrap-round (o .args .half) (o .args .z) (o .fits .z .sfits) (c .round .ok) (c .before .size .ensures) (c .round .ensures)
+returns c = wraps (c .args .half) (c .args .z) (c .pre) (c .fits .z .sfits)
 
 pub wrap-spec : {M : Type 1} → statement M
-wrap-spec = tie.close (tie.spec size-requires add-round rem-round round-requires returns)
+wrap-spec = tie.close (tie.spec cast-h add-n rem-result add-result add-result-2 rem-result-2 sub-result returns)
