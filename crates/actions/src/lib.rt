@@ -30,7 +30,7 @@ use words::word;
 // its values.
 pub struct Run {
     pub words: usize,
-    pub left: u32,
+    pub left: usize,
     pub spoken: bool,
     pub gate: u16,
     pub count: u16,

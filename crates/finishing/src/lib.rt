@@ -88,7 +88,7 @@ pub fn finish(
             Stepped::Moved(Move {
                 next: t,
                 words: ran.run.words as u32,
-                units: budget - ran.run.left,
+                units: budget - ran.run.left as u32,
             })
         }
     }

@@ -27,22 +27,22 @@ use Rattle.machine.proofs.Parts.{runs}
 use Rattle.machine.proofs.Ways.{ran, answered-same, answers-blocked}
 
 -- ---- a case
-module _ {s : List ℕ} {i : Image} {a b : ℕ} {m values : List ℤ} (h : RunningCase s i a b m values) where
-  pub case-arms : {v : Value} {z : ℤ} → v ≡ eval (tablesOf s) (expressionAt (tablesOf s) a) m → v ≡ Is z → RunningArms s i b (held z) m values
+module _ {s : List ℕ} {rows : ℕ} {a b : ℕ} {m values : List ℤ} (h : RunningCase s rows a b m values) where
+  pub case-arms : {v : Value} {z : ℤ} → v ≡ eval (tablesOf s) (expressionAt (tablesOf s) a) m → v ≡ Is z → RunningArms s rows b (held z) m values
   case-arms {v} {z} e f =
       let x = tablesOf s in
       let w = all (h .subject .ready) in
       record {
         finds = record {
           ready = h .list .ready;
-          start = ap (λ (j : Image). j .rows) (h .list .trailer);
+          start = h .list .start;
           list = h .list .here;
           type = _;
           typed = h .arms;
           value =
               rw (local-is (runs (h .subject)) e f) (eval-typed x w (expressionAt x a) m z (good-exp x w a (h .subject .kind)) (h .subject .ready .store) (sym e ∙ f));
         };
-        trailer = h .list .trailer;
+        start = h .list .start;
         room = h .list .room;
       }
 
@@ -61,22 +61,22 @@ module _ {s : List ℕ} {i : Image} {a b : ℕ} {m values : List ℤ} (h : Runni
     case-unknown f g = answered-same _ run g refl refl ∙ sym (valued-unknown _ r (stateOf run m values) _ (sym e ∙ f))
 
 -- ---- its arms, by what the search gives
-module _ {s : List ℕ} {i : Image} {a : ℕ} {z : ℤ} {m values : List ℤ} (h : RunningArms s i a z m values) where
+module _ {s : List ℕ} {rows : ℕ} {a : ℕ} {z : ℤ} {m values : List ℤ} (h : RunningArms s rows a z m values) where
   -- the value is read from a local
   arm-held : held z ≡ z
   arm-held = held-is z (let k = value-small (all (h .finds .ready)) (h .finds .type) z (h .finds .value) in omega arith)
 
-  pub arm-finds : Finds s (i .rows) a (held z) m
+  pub arm-finds : Finds s rows a (held z) m
   arm-finds = rw arm-held (h .finds)
 
   module _ {f : Found} {n : List ℤ} (held-e : finding f n ≡ findArm (tablesOf s) (listAt (tablesOf s) a) (held z) m) where
     e : finding f n ≡ findArm (tablesOf s) (listAt (tablesOf s) a) z m
     e = held-e ∙ ap (λ (y : ℤ). findArm (tablesOf s) (listAt (tablesOf s) a) y m) arm-held
 
-    pub arm-action : {b : ℕ} → f ≡ Arm b → Running action s i b n values
+    pub arm-action : {b : ℕ} → f ≡ Arm b → Running action s rows b n values
     arm-action {b} g =
-        let k : (b < a) × Runs action s (i .rows) b n = subst (λ (y : Found). Left s (i .rows) a m y n) g (found-left (h .finds) e) in
-        record { ready = k .1 .ready; trailer = h .trailer; kind = k .1 .kind; room = h .room }
+        let k : (b < a) × Runs action s rows b n = subst (λ (y : Found). Left s rows a m y n) g (found-left (h .finds) e) in
+        record { ready = k .1 .ready; start = h .start; kind = k .1 .kind; room = h .room }
 
     module _ (script : List ℕ) (r : ℕ) (run : Run) where
       abbrev tried : Res
@@ -87,11 +87,11 @@ module _ {s : List ℕ} {i : Image} {a : ℕ} {z : ℤ} {m values : List ℤ} (h
 
       pub arm-none : {q : Ran} → f ≡ NoArm → q ≡ ran (Stops (cond (run .spoken) (BlockedSpoken (row r)) (Blocked (row r)))) run → resultOf q n values ≡ tried
       arm-none {q} g k =
-          let w : n ≡ m = subst (λ (y : Found). Left s (i .rows) a m y n) g (found-left (h .finds) e) in
+          let w : n ≡ m = subst (λ (y : Found). Left s rows a m y n) g (found-left (h .finds) e) in
           ap (λ (l : List ℤ). resultOf q l values) w ∙ answers-blocked r run m values k
           ∙ sym (exec-none (tablesOf s) z script r (stateOf run m values) (listAt (tablesOf s) a) e g)
 
       pub arm-unsure : {q : Ran} → f ≡ Unsure → q ≡ ran (Stops (Undefined (row r))) run → resultOf q n values ≡ tried
       arm-unsure g k =
-          let w : n ≡ m = subst (λ (y : Found). Left s (i .rows) a m y n) g (found-left (h .finds) e) in
+          let w : n ≡ m = subst (λ (y : Found). Left s rows a m y n) g (found-left (h .finds) e) in
           answered-same _ run k w refl ∙ sym (exec-unsure (tablesOf s) z script r (stateOf run m values) (listAt (tablesOf s) a) e g)

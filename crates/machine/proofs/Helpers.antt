@@ -1,27 +1,34 @@
 -- The ways of the loops' helpers: a unit for a further test, V := V + 1, V <= high. Assumes nothing.
-use mathlib.Core.{Path._≡_, Path.sym, Path.ap, Path._∙_, Bool.Bool, Bool.true, Bool.false, List.List}
-use Prim.Native.Nat.{ℕ, _-_, _^_, _<_}
+use mathlib.Core.{Path._≡_, Path.sym, Path.ap, Path._∙_, Path.subst, Bool.Bool, Bool.true, Bool.false, Bool.cond, List.List}
+use Prim.Native.Nat.{ℕ, _+_, _-_, _^_, _≤_, _<_}
 use native.Mathlib.Omega.{arith}
-use lib.{IntN.ℤ, IntN.pos, ListN.getD, ListN.set, Signed.mag, Signed.leZ}
-use Rattle.model.specs.declared.{Refusal.Refusal, Refusal.the-variants.Undefined, Refusal.the-variants.BudgetSpent, Value.Value, Value.the-variants.Is, Value.the-variants.Unknown, Tested.the-variants.Holds, Tested.the-variants.Fails, Tested.the-variants.Unsure, Outcome.the-variants.Ends, Outcome.the-variants.Stops}
-use Rattle.model.specs.Answers.{row, variable}
+use lib.{IntN.ℤ, IntN.pos, ListN.length, ListN.getD, ListN.set, Signed.mag, Signed.leZ}
+use Rattle.model.specs.declared.{Refusal.Refusal, Refusal.the-variants.Blocked, Refusal.the-variants.BlockedSpoken, Refusal.the-variants.Undefined, Refusal.the-variants.BudgetSpent, Value.Value, Value.the-variants.Is, Value.the-variants.Unknown, Tested.the-variants.Holds, Tested.the-variants.Fails, Tested.the-variants.Unsure, Outcome.Outcome, Outcome.the-variants.Ends, Outcome.the-variants.Stops}
+use Rattle.model.specs.Answers.{row, variable, number}
 use Rattle.model.specs.Values.{half16, mark, isZero, ofBool, plus}
-use Rattle.model.specs.Image.{Tables, int}
+use Rattle.model.specs.Image.{Tables, int, tablesOf}
+use Rattle.model.specs.Decode.{actOf, actionAt}
 use Rattle.model.specs.Rows.{Binary, arithmetic, Plus, comparison, AtMost as isAtMost}
-use Rattle.model.specs.Trees.{var, const, binary}
-use Rattle.model.specs.Run.{slot, store, defined, applyBinary, eval, test, gives, storing}
+use Rattle.model.specs.Trees.{var, const, binary, Action}
+use Rattle.model.specs.Run.{slot, store, defined, applyBinary, eval, test, gives, storing, exec, execAct}
 use Rattle.model.proofs.Run.{charge-spent, charge-some, then-ends, valued-is, valued-unknown}
 use Rattle.values.specs.Range.{BothInRange}
 use Rattle.values.proofs.Held.{held, held-is}
 use Rattle.expressions.specs.Operators.{valueOf}
 use Rattle.actions.specs.declared.{Run.Run, Ran.Ran}
 use Rattle.actions.specs.State.{stateOf, resultOf}
+use Rattle.told.specs.Told.{runOf}
+use Rattle.told.proofs.Kept.{set-left, set-words}
 use Rattle.machine.specs.Running.{Turned, SlotOf, Onward, AtMost}
-use Rattle.machine.proofs.Ways.{ran, answered, then-over}
+use Rattle.machine.proofs.Ways.{ran, answered, answered-same, then-over}
 
--- ---- a refusal
-pub stopped-as : {q : Ran} {y z : Refusal} (run : Run) → y ≡ z → q ≡ ran (Stops y) run → q ≡ ran (Stops z) run
-stopped-as run e f = f ∙ ap (λ (u : Refusal). ran (Stops u) run) e
+-- ---- blocked is a refusal of the run
+pub blocked-late : (b : Bool) (r : ℕ) {y : Refusal} → y ≡ cond b (BlockedSpoken (row r)) (Blocked (row r)) → 21 ≤ number y
+blocked-late b r e = subst (λ (y : Refusal). 21 ≤ number y) (sym e) (go b)
+  where
+    go : (b : Bool) → 21 ≤ number (cond b (BlockedSpoken (row r)) (Blocked (row r)))
+    go true = omega arith
+    go false = omega arith
 
 -- ---- a unit for a further test
 module _ (r : ℕ) {q p : Ran} where
@@ -59,9 +66,9 @@ module _ (x : Tables) (h : x .half ≡ half16) (m : List ℤ) (v : ℕ) {y : Val
   both-unknown o k f = ap (λ (u : Value). elim u [ Is a ↦ Is (applyBinary (x .half) o a k) | Unknown ↦ Unknown ]) (var-is ∙ f)
 
 -- ---- V := V + 1
-module _ {q : Ran} {v : ℕ} {m : List ℤ} (s : SlotOf q v m) (o : q .out ≡ Ends) {y : Value} {z : ℤ} (e : y ≡ valueOf (getD m v (mark half16))) (f : y ≡ Is z) where
+module _ {o : Outcome} {v : ℕ} {m : List ℤ} (s : SlotOf o v m) (f : o ≡ Ends) {y : Value} {z : ℤ} (e : y ≡ valueOf (getD m v (mark half16))) (g : y ≡ Is z) where
   value-int : mag z < 32768
-  value-int = s .int o z (sym e ∙ f)
+  value-int = s .int f z (sym e ∙ g)
 
   pub value-held : held z ≡ z
   value-held = held-is z (let k = value-int in omega arith)
@@ -69,24 +76,24 @@ module _ {q : Ran} {v : ℕ} {m : List ℤ} (s : SlotOf q v m) (o : q .out ≡ E
   pub plus-range : BothInRange 32768 (held z) (pos 1)
   plus-range = record { half = record { some = omega arith; small = omega arith }; left = rw value-held value-int; right = omega arith }
 
-pub onward-over : (r v : ℕ) {q : Ran} {m : List ℤ} → (q .out ≡ Ends → ⊥) → Onward r v q m q m
-onward-over r v {q} {m} f = record { does = λ x h values. sym (then-over (resultOf q m values) _ f) }
+pub onward-over : (r v : ℕ) {o : Outcome} {m : List ℤ} → (o ≡ Ends → ⊥) → Onward r v o m o m
+onward-over r v {o} {m} f = record { does = λ x h run values. sym (then-over (resultOf (ran o run) m values) _ f) }
 
-module _ (r v : ℕ) {q : Ran} {m : List ℤ} (o : q .out ≡ Ends) {y : Value} (e : y ≡ valueOf (getD m v (mark half16))) where
-  pub onward-unknown : {p : Ran} → y ≡ Unknown → p ≡ ran (Stops (Undefined (row r))) (q .run) → Onward r v q m p m
+module _ (r v : ℕ) {o : Outcome} {m : List ℤ} (f : o ≡ Ends) {y : Value} (e : y ≡ valueOf (getD m v (mark half16))) where
+  pub onward-unknown : {p : Outcome} → y ≡ Unknown → p ≡ Stops (Undefined (row r)) → Onward r v o m p m
   unfolding storing
-  onward-unknown f g = record {
-    does = λ x h values.
-        answered _ (q .run) m values g
-        ∙ sym (then-ends (resultOf q m values) _ o ∙ valued-unknown _ r (stateOf (q .run) m values) _ (both-unknown x h m v e (arithmetic Plus) (pos 1) f));
+  onward-unknown g k = record {
+    does = λ x h run values.
+        ap (λ (u : Outcome). gives u (stateOf run m values)) k
+        ∙ sym (then-ends (resultOf (ran o run) m values) _ f ∙ valued-unknown _ r (stateOf run m values) _ (both-unknown x h m v e (arithmetic Plus) (pos 1) g));
   }
 
-  pub onward-is : {z k : ℤ} → y ≡ Is z → k ≡ plus half16 z (pos 1) → Onward r v q m q (set m v k)
+  pub onward-is : {p : Outcome} {z k : ℤ} → p ≡ Ends → y ≡ Is z → k ≡ plus half16 z (pos 1) → Onward r v o m p (set m v k)
   unfolding storing store applyBinary
-  onward-is {z} {k} f g = record {
-    does = λ x h values.
-        (λ j. gives (o j) (stateOf (q .run) (set m v (g j)) values))
-        ∙ sym (then-ends (resultOf q m values) _ o ∙ valued-is _ r (stateOf (q .run) m values) _ _ (both-is x h m v e (arithmetic Plus) (pos 1) z f));
+  onward-is {p} {z} {k} q g l = record {
+    does = λ x h run values.
+        (λ j. gives (q j) (stateOf run (set m v (l j)) values))
+        ∙ sym (then-ends (resultOf (ran o run) m values) _ f ∙ valued-is _ r (stateOf run m values) _ _ (both-is x h m v e (arithmetic Plus) (pos 1) z g));
   }
 
 -- ---- V <= high
@@ -116,3 +123,31 @@ module _ (v : ℕ) (high : ℤ) {m : List ℤ} {y : Value} (e : y ≡ valueOf (g
 -- what is held in two locals
 pub held-most : (z high : ℤ) {b : Bool} → mag z < 2 ^ 31 → mag high < 2 ^ 31 → leZ (held z) (held high) ≡ b → leZ z high ≡ b
 held-most z high k l e = sym (λ j. leZ (held-is z k j) (held-is high l j)) ∙ e
+
+-- ---- an action that holds no other: its outcome told, its state put back
+pub leaf-told : (s : List ℕ) (r : ℕ) (script : List ℕ) {q : Ran} {o : Outcome} {run now from : Run} (m n values vs : List ℤ) → o ≡ q .out → run ≡ q .run → now ≡ from
+    → resultOf q n vs ≡ execAct (tablesOf s) (actOf (actionAt (tablesOf s) r)) script r (stateOf now m values)
+    → resultOf (ran o run) n vs ≡ execAct (tablesOf s) (actOf (actionAt (tablesOf s) r)) script r (stateOf from m values)
+leaf-told s r script m n values vs e f g h =
+    (λ j. resultOf (ran (e j) (f j)) n vs) ∙ h ∙ ap (λ (u : Run). execAct (tablesOf s) (actOf (actionAt (tablesOf s) r)) script r (stateOf u m values)) g
+
+-- ---- the state in its slice
+pub told-as : {o p : Outcome} (run : Run) → o ≡ p → ran o run ≡ ran p run
+told-as run e = ap (λ (u : Outcome). ran u run) e
+
+pub paid : (l l' : List ℕ) → 5 ≤ length l → l' ≡ set l 1 (runOf l .left - 1)
+    → runOf l' ≡ record { words = runOf l .words; left = runOf l .left - 1; spoken = runOf l .spoken; gate = runOf l .gate; count = runOf l .count }
+paid l l' h e = ap runOf e ∙ set-left l (runOf l .left - 1) h
+
+pub heard : (l l' : List ℕ) → 5 ≤ length l → l' ≡ set l 0 (runOf l .words + 1)
+    → runOf l' ≡ record { words = runOf l .words + 1; left = runOf l .left; spoken = runOf l .spoken; gate = runOf l .gate; count = runOf l .count }
+heard l l' h e = ap runOf e ∙ set-words l (runOf l .words + 1) h
+
+-- the same slices
+pub run-same : {o p : Outcome} {l l' : List ℕ} {m n values vs : List ℤ} → ran o (runOf l') ≡ ran p (runOf l') → n ≡ m → vs ≡ values → l' ≡ l
+    → resultOf (ran o (runOf l')) n vs ≡ gives p (stateOf (runOf l) m values)
+run-same {p = p} {m = m} {values = values} e f g h = answered-same p _ e f g ∙ ap (λ (k : List ℕ). gives p (stateOf (runOf k) m values)) h
+
+pub from-same : (x : Tables) (a : Action) (script : List ℕ) {l l' : List ℕ} {m n values vs : List ℤ} → n ≡ m → vs ≡ values → l' ≡ l
+    → exec x a script (stateOf (runOf l') n vs) ≡ exec x a script (stateOf (runOf l) m values)
+from-same x a script f g h = λ j. exec x a script (stateOf (runOf (h j)) (f j) (g j))

@@ -1,3 +1,4 @@
+pub mod Late
 pub mod Parts
 pub mod Ways
 pub mod Helpers

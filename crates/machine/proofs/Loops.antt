@@ -110,8 +110,8 @@ abbrev pub whiling : List ℕ → ℕ → ℕ → ℕ → List ℕ → ℕ → S
 whiling s r e a script n u = looping n (tablesOf s) (expressionAt (tablesOf s) e) (exec (tablesOf s) (actionAt (tablesOf s) a) script) r u
 
 -- a while from a later test on, and from its first
-pub record Whiles (s : List ℕ) (i : Image) (r e a : ℕ) (script : List ℕ) (m₀ values₀ : List ℤ) (now₀ : Run) (m values : List ℤ) (now : Run) : Type 0 where
-  pub going : RunningLoop s i r e a m values
+pub record Whiles (s : List ℕ) (rows : ℕ) (r e a : ℕ) (script : List ℕ) (m₀ values₀ : List ℤ) (now₀ : Run) (m values : List ℤ) (now : Run) : Type 0 where
+  pub going : RunningLoop s rows r e a m values
   pub store : length m ≡ length m₀
   pub buffer : length values ≡ length values₀
   pub less : now .left ≤ now₀ .left
@@ -119,19 +119,19 @@ pub record Whiles (s : List ℕ) (i : Image) (r e a : ℕ) (script : List ℕ) (
   pub enough : now .left < fuel
   pub same : whiling s r e a script fuel (stateOf now m values) ≡ whiling s r e a script (suc (now₀ .left)) (stateOf now₀ m₀ values₀)
 
-pub while-first : {s : List ℕ} {i : Image} {r e a : ℕ} (script : List ℕ) {m values : List ℤ} (now : Run) → RunningLoop s i r e a m values
-    → Whiles s i r e a script m values now m values now
+pub while-first : {s : List ℕ} {rows : ℕ} {r e a : ℕ} (script : List ℕ) {m values : List ℤ} (now : Run) → RunningLoop s rows r e a m values
+    → Whiles s rows r e a script m values now m values now
 while-first script now h =
     record { going = h; store = refl; buffer = refl; less = omega arith; fuel = suc (now .left); enough = omega arith; same = refl }
 
-module _ {s : List ℕ} {i : Image} {r e a : ℕ} {script : List ℕ} {m₀ values₀ : List ℤ} {now₀ : Run} {m values : List ℤ} {now : Run}
-    (w : Whiles s i r e a script m₀ values₀ now₀ m values now) where
+module _ {s : List ℕ} {rows : ℕ} {r e a : ℕ} {script : List ℕ} {m₀ values₀ : List ℤ} {now₀ : Run} {m values : List ℤ} {now : Run}
+    (w : Whiles s rows r e a script m₀ values₀ now₀ m values now) where
   pub while-row : r ≡ none → ⊥
   while-row z = omega (arith, w .going .row)
 
-  pub while-test : Runs expression s (i .rows) e m
+  pub while-test : Runs expression s rows e m
   while-test =
-      record { ready = w .going .body .ready; start = ap (λ (j : Image). j .rows) (w .going .body .trailer); kind = w .going .test }
+      record { ready = w .going .body .ready; start = w .going .body .start; kind = w .going .test }
 
   module _ {y : Tested} (t : y ≡ test (tablesOf s) (expressionAt (tablesOf s) e) m) where
     pub while-ends : {q : Ran} → y ≡ Fails → q ≡ ran Ends now
@@ -159,7 +159,7 @@ module _ {s : List ℕ} {i : Image} {r e a : ℕ} {script : List ℕ} {m₀ valu
           turn-less r while-row (tablesOf s) (expressionAt (tablesOf s) e) (exec (tablesOf s) (actionAt (tablesOf s) a) script) (stateOf now m values)
           (resultOf p n vs) body-less (turned d while-row n vs g) o
 
-      pub while-more : p .out ≡ Ends → length n ≡ length m → length vs ≡ length values → Whiles s i r e a script m₀ values₀ now₀ n vs (p .run)
+      pub while-more : p .out ≡ Ends → length n ≡ length m → length vs ≡ length values → Whiles s rows r e a script m₀ values₀ now₀ n vs (p .run)
       while-more o ln lv =
           let ends : q .out ≡ Ends = first-ends (resultOf q n vs) _ (subst (λ (b : Res). b .out ≡ Ends) (turned d while-row n vs refl) o) in
           let l : p .run .left ≤ now₀ .left = omega (arith, while-less o, w .less) in
@@ -205,8 +205,8 @@ onward-typed x w v r u i t k =
         store-typed x (u .store) v z (g .inside) k (subst (λ (n : ℕ). OfType x n z) (g .typed) (eval-typed x w _ (u .store) z (g .good) k e))
 
 -- a for from a later test on, and from its first
-pub record Fors (s : List ℕ) (i : Image) (r g a : ℕ) (script : List ℕ) (m₀ values₀ : List ℤ) (now₀ : Run) (m values : List ℤ) (now : Run) : Type 0 where
-  pub going : RunningFor s i r g a m values
+pub record Fors (s : List ℕ) (rows : ℕ) (r g a : ℕ) (script : List ℕ) (m₀ values₀ : List ℤ) (now₀ : Run) (m values : List ℤ) (now : Run) : Type 0 where
+  pub going : RunningFor s rows r g a m values
   pub store : length m ≡ length m₀
   pub buffer : length values ≡ length values₀
   pub less : now .left ≤ now₀ .left
@@ -214,11 +214,11 @@ pub record Fors (s : List ℕ) (i : Image) (r g a : ℕ) (script : List ℕ) (m�
   pub enough : now .left < fuel
   pub same : turning s r g a script fuel (stateOf now m values) ≡ turning s r g a script (suc (now₀ .left)) (stateOf now₀ m₀ values₀)
 
-module _ {s : List ℕ} {i : Image} {r g a : ℕ} {m values : List ℤ} (h : RunningFor s i r g a m values) where
-  pub for-range : RowFrom s (i .rows) g
-  for-range = row-from refl (record { ready = h .body .ready; start = ap (λ (j : Image). j .rows) (h .body .trailer); kind = h .range })
+module _ {s : List ℕ} {rows : ℕ} {r g a : ℕ} {m values : List ℤ} (h : RunningFor s rows r g a m values) where
+  pub for-range : RowFrom s rows g
+  for-range = row-from refl (record { ready = h .body .ready; start = h .body .start; kind = h .range })
 
-  for-moved : {n vs : List ℤ} → TypedStore (tablesOf s) n → length vs ≡ length values → RunningFor s i r g a n vs
+  for-moved : {n vs : List ℤ} → TypedStore (tablesOf s) n → length vs ≡ length values → RunningFor s rows r g a n vs
   for-moved t l = record { body = moved (h .body) t l; range = h .range; typed = h .typed; row = h .row }
 
   for-inside : Inside (tablesOf s) (variable (fieldsOf (tablesOf s) g .a))
@@ -239,7 +239,7 @@ module _ {s : List ℕ} {i : Image} {r g a : ℕ} {m values : List ℤ} (h : Run
         (store-typed (tablesOf s) m (variable (fieldsOf (tablesOf s) g .a)) low for-inside (h .body .ready .store)
         (subst (λ (n : ℕ). OfType (tablesOf s) n low) (sym (h .typed)) (int-type (tablesOf s) (all (h .body .ready)) low low-small)))
 
-    pub for-first : Fors s i r g a script (set m (w .a) low) values run (set m (w .a) low) values run
+    pub for-first : Fors s rows r g a script (set m (w .a) low) values run (set m (w .a) low) values run
     for-first =
         record { going = for-moved low-typed refl; store = refl; buffer = refl; less = omega arith; fuel = suc (run .left); enough = omega arith; same = refl }
 
@@ -253,8 +253,8 @@ module _ {s : List ℕ} {i : Image} {r g a : ℕ} {m values : List ℤ} (h : Run
         places : set m (w .a) low ≡ set m (fieldsOf (tablesOf s) g .a) (signed half16 (fieldsOf (tablesOf s) g .b))
         places = rw (l, e) refl
 
-module _ {s : List ℕ} {i : Image} {r g a : ℕ} {script : List ℕ} {m₀ values₀ : List ℤ} {now₀ : Run} {m values : List ℤ} {now : Run}
-    (h : Fors s i r g a script m₀ values₀ now₀ m values now) {w : Fields} (e : w ≡ fieldsOf (tablesOf s) g) where
+module _ {s : List ℕ} {rows : ℕ} {r g a : ℕ} {script : List ℕ} {m₀ values₀ : List ℤ} {now₀ : Run} {m values : List ℤ} {now : Run}
+    (h : Fors s rows r g a script m₀ values₀ now₀ m values now) {w : Fields} (e : w ≡ fieldsOf (tablesOf s) g) where
   pub for-row : r ≡ none → ⊥
   for-row z = omega (arith, h .going .row)
 
@@ -278,7 +278,7 @@ module _ {s : List ℕ} {i : Image} {r g a : ℕ} {script : List ℕ} {m₀ valu
     body-typed : q .out ≡ Ends → TypedStore (tablesOf s) n
     body-typed o = ends-typed (h .going .body) script now q n vs f o
 
-    pub slot-of : length n ≡ length m → SlotOf q (w .a) n
+    pub slot-of : length n ≡ length m → SlotOf (q .out) (w .a) n
     unfolding valueOf eval defined slot tablesOf GoodExp
     slot-of k = record {
       inside = rw k (for-slot (h .going) e);
@@ -287,11 +287,11 @@ module _ {s : List ℕ} {i : Image} {r g a : ℕ} {script : List ℕ} {m₀ valu
           (rw e (for-inside (h .going))) (body-typed o) b);
     }
 
-    module _ {high : ℤ} (l : high ≡ signed half16 (w .c)) {y : Tested} (b : AtMost (w .a) high m y) (k : y ≡ Holds) (n' : List ℤ) {q' p : Ran}
-        (c : Onward r (w .a) q n q' n') (d : Turned r q' p) where
-      moves : resultOf q' n' vs ≡ forBody (tablesOf s) (fieldsOf (tablesOf s) g) (actionAt (tablesOf s) a) script r (stateOf now m values)
+    module _ {high : ℤ} (l : high ≡ signed half16 (w .c)) {y : Tested} (b : AtMost (w .a) high m y) (k : y ≡ Holds) (n' : List ℤ) {o' : Outcome} {p : Ran}
+        (c : Onward r (w .a) (q .out) n o' n') (d : Turned r (ran o' (q .run)) p) where
+      moves : resultOf (ran o' (q .run)) n' vs ≡ forBody (tablesOf s) (fieldsOf (tablesOf s) g) (actionAt (tablesOf s) a) script r (stateOf now m values)
       moves =
-          c .does (tablesOf s) (half-is s) vs ∙ ap (λ (u : Res). andThen u (assigning (tablesOf s) (onward (variable (w .a))) r)) f
+          c .does (tablesOf s) (half-is s) (q .run) vs ∙ ap (λ (u : Res). andThen u (assigning (tablesOf s) (onward (variable (w .a))) r)) f
           ∙ ap (λ (v : Fields). forBody (tablesOf s) v (actionAt (tablesOf s) a) script r (stateOf now m values)) e
 
       pub for-stops : (p .out ≡ Ends → ⊥) → resultOf p n' vs ≡ turning s r g a script (suc (now₀ .left)) (stateOf now₀ m₀ values₀)
@@ -309,15 +309,15 @@ module _ {s : List ℕ} {i : Image} {r g a : ℕ} {script : List ℕ} {m₀ valu
 
       turn-typed : p .out ≡ Ends → TypedStore (tablesOf s) n'
       turn-typed o =
-          let step = c .does (tablesOf s) (half-is s) vs in
-          let ends' : q' .out ≡ Ends = first-ends (resultOf q' n' vs) _ (subst (λ (u : Res). u .out ≡ Ends) (turned d for-row n' vs refl) o) in
+          let step = c .does (tablesOf s) (half-is s) (q .run) vs in
+          let ends' : o' ≡ Ends = first-ends (resultOf (ran o' (q .run)) n' vs) _ (subst (λ (u : Res). u .out ≡ Ends) (turned d for-row n' vs refl) o) in
           let ends : q .out ≡ Ends = first-ends (resultOf q n vs) _ (subst (λ (u : Res). u .out ≡ Ends) step ends') in
-          let goes : resultOf q' n' vs ≡ assigning (tablesOf s) (onward (variable (w .a))) r (stateOf (q .run) n vs) = step ∙ then-ends (resultOf q n vs) _ ends in
+          let goes : resultOf (ran o' (q .run)) n' vs ≡ assigning (tablesOf s) (onward (variable (w .a))) r (stateOf (q .run) n vs) = step ∙ then-ends (resultOf q n vs) _ ends in
           subst (λ (u : Res). TypedStore (tablesOf s) (u .st .store)) (sym goes)
           (onward-typed (tablesOf s) (all (h .going .body .ready)) (variable (w .a)) r (stateOf (q .run) n vs) (rw e (for-inside (h .going)))
           (rw e (h .going .typed)) (body-typed ends) (subst (λ (u : Res). u .out ≡ Ends) goes ends'))
 
-      pub for-more : p .out ≡ Ends → length n' ≡ length m → length vs ≡ length values → Fors s i r g a script m₀ values₀ now₀ n' vs (p .run)
+      pub for-more : p .out ≡ Ends → length n' ≡ length m → length vs ≡ length values → Fors s rows r g a script m₀ values₀ now₀ n' vs (p .run)
       for-more o ln lv =
           let d' : p .run .left ≤ now₀ .left = omega (arith, for-less o, h .less) in
           let j = loop-more r for-row (tablesOf s) _ _ (stateOf now m values) (h .fuel) (resultOf p n' vs) (h .enough) turn-body-less (sym k ∙ tests l b) (turned d for-row n' vs moves) o in

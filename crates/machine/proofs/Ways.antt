@@ -76,7 +76,7 @@ entered : (x : Tables) (script : List ℕ) (u : St) (r : ℕ) (a : Action) (b : 
 unfolding exec
 entered x script u r a b e = rw e refl
 
-module _ {s : List ℕ} {i : Image} {r : ℕ} {m values : List ℤ} (h : Running action s i r m values) (script : List ℕ) (run : Run) where
+module _ {s : List ℕ} {rows : ℕ} {r : ℕ} {m values : List ℤ} (h : Running action s rows r m values) (script : List ℕ) (run : Run) where
   enters : exec (tablesOf s) (actionAt (tablesOf s) r) script (stateOf run m values)
       ≡ charge r (stateOf run m values) (λ t. execAct (tablesOf s) (actOf (actionAt (tablesOf s) r)) script r t)
   enters = entered (tablesOf s) script (stateOf run m values) r (actionAt (tablesOf s) r) _ (actionAt-step (tablesOf s) (forms (h .ready)) r)
@@ -172,7 +172,7 @@ pub positive : (z : ℤ) → ltZ z (pos 0) ≡ false → z ≡ pos (mag z)
 positive (pos n) e = refl
 positive (negsuc n) e = let k : _≡_ {A = ℕ} 0 1 = cc in absurd (omega arith)
 
-module _ {s : List ℕ} {i : Image} {a : ℕ} {m values : List ℤ} (h : RunningList branch s i a m values) (script : List ℕ) (r : ℕ) (run : Run) where
+module _ {s : List ℕ} {rows : ℕ} {a : ℕ} {m values : List ℤ} (h : RunningList branch s rows a m values) (script : List ℕ) (r : ℕ) (run : Run) where
   abbrev selected : Res
   selected = execAct (tablesOf s) (select (branchesOf (tablesOf s) (actionAt (tablesOf s)) (listAt (tablesOf s) a))) script r (stateOf run m values)
 
@@ -210,7 +210,7 @@ pub state-same : (x : Tables) (a : Action) (script : List ℕ) (run : Run) {m n 
 state-same x a script run e f = λ j. exec x a script (stateOf run (e j) (f j))
 
 -- ---- its branches
-module _ {s : List ℕ} {i : Image} {a : ℕ} {m values : List ℤ} (h : RunningList branch s i a m values) (f : a ≡ none → ⊥) {w : Fields} (e : w ≡ fieldsOf (tablesOf s) a) where
+module _ {s : List ℕ} {rows : ℕ} {a : ℕ} {m values : List ℤ} (h : RunningList branch s rows a m values) (f : a ≡ none → ⊥) {w : Fields} (e : w ≡ fieldsOf (tablesOf s) a) where
   means-branch : meansAt (tablesOf s) a ≡ another branch
   means-branch = is-kind (tablesOf s) branch a (first-runs h f .kind)
 
@@ -222,15 +222,15 @@ module _ {s : List ℕ} {i : Image} {a : ℕ} {m values : List ℤ} (h : Running
   unfolding branchesOf
   step = rw (listAt-step (tablesOf s) (forms (h .ready)) a f, ← next-here, e)
 
-  pub branch-action : Running action s i (w .a) m values
+  pub branch-action : Running action s rows (w .a) m values
   branch-action =
       let facts : Row (tablesOf s) a w (another branch) = rw e (row-is (tablesOf s) (forms (h .ready)) a (another branch) means-branch) in
-      record { ready = h .ready; trailer = h .trailer; kind = facts .a .kind; room = h .room }
+      record { ready = h .ready; start = h .start; kind = facts .a .kind; room = h .room }
 
-  pub branch-rest : ((w .b + 1) % 65536 < (a + 1) % 65536) × RunningList branch s i (w .b) m values
+  pub branch-rest : ((w .b + 1) % 65536 < (a + 1) % 65536) × RunningList branch s rows (w .b) m values
   branch-rest = rest-list h refl f next-here
 
-module _ {s : List ℕ} {i : Image} {a : ℕ} {m values : List ℤ} (h : RunningList branch s i a m values) (script : List ℕ) (r : ℕ) (u : St) where
+module _ {s : List ℕ} {rows : ℕ} {a : ℕ} {m values : List ℤ} (h : RunningList branch s rows a m values) (script : List ℕ) (r : ℕ) (u : St) where
   abbrev numbered : ℕ → ℕ → Res
   numbered j n = execBranch (tablesOf s) (branchesOf (tablesOf s) (actionAt (tablesOf s)) (listAt (tablesOf s) j)) (pos n) script r u
 

@@ -196,7 +196,7 @@ module _ (x : Tables) (w : Whole x) (few : length (x .rows) < none) where
   reads-action r k = reads-by (suc r) r (omega arith) k
 
 -- what the run of a row's action has read
-pub words-of : {s : List ℕ} {i : Image} {r : ℕ} {m values : List ℤ} → Running action s i r m values → (script : List ℕ) (run : Run) (q : Ran) (n vs : List ℤ)
+pub words-of : {s : List ℕ} {rows : ℕ} {r : ℕ} {m values : List ℤ} → Running action s rows r m values → (script : List ℕ) (run : Run) (q : Ran) (n vs : List ℤ)
     → resultOf q n vs ≡ exec (tablesOf s) (actionAt (tablesOf s) r) script (stateOf run m values) → q .run .words ≤ run .words + 8 * (run .left - q .run .left)
 words-of {s} {r = r} {m = m} {values = values} h script run q n vs e =
     let x = tablesOf s in

@@ -1,29 +1,27 @@
 // The run of an action, on a working copy of the store: one attempt. Running an action and running the branches or arms it
-// holds lead into each other.
+// holds lead into each other. A run's state stands in a slice, and how it ended is a number (crate told).
 ghost use mathlib.Core.Path.{_≡_};
 ghost use mathlib.Core.Bool.{cond};
 ghost use Prim.Native.Nat.{suc, _+_, _-_, _≤_, _<_};
 ghost use lib.IntN.{pos};
 ghost use lib.ListN.{length};
-ghost use Rattle.model.specs.declared.{Refusal.the-variants.Blocked, Refusal.the-variants.BlockedSpoken, Outcome.the-variants.Ends, Outcome.the-variants.Stops};
+ghost use Rattle.model.specs.declared.{Refusal.the-variants.Blocked, Refusal.the-variants.BlockedSpoken, Outcome.the-variants.Stops};
 ghost use Rattle.model.specs.Answers.{row};
-ghost use Rattle.model.specs.Image.{tablesOf, fieldsOf};
+ghost use Rattle.model.specs.Image.{trailerOf, tablesOf, fieldsOf};
 ghost use Rattle.model.specs.Rows.{action, branch};
-ghost use Rattle.model.specs.Decode.{actionAt, expressionAt, listAt, branchesOf, armsOf, forOf};
+ghost use Rattle.model.specs.Decode.{actionAt, actOf, expressionAt, listAt, branchesOf, armsOf, forOf};
 ghost use Rattle.model.specs.Trees.{select, case};
 ghost use Rattle.model.specs.Run.{andThen, looping, exec, execAct, execBranch, execArms};
 ghost use Rattle.actions.specs.State.{stateOf, resultOf};
+ghost use Rattle.told.specs.Told.{runOf, outcomeOf, ranOf};
+ghost use Rattle.simple.specs.Simple.{Simple};
 ghost use Rattle.machine.specs.Running.{Running, RunningList, RunningCase, RunningArms, RunningLoop, RunningFor, SlotOf, Turned, Onward, AtMost};
-use actions::Ran;
-use actions::Run;
-use actions::at_word;
 use actions::blocked_at;
 use expressions::eval;
 use expressions::row;
 use expressions::test;
 use expressions::value;
-use model::Image;
-use model::Outcome;
+use image::trailer;
 use model::Refusal;
 use model::Row;
 use model::Tested;
@@ -31,6 +29,16 @@ use model::Value;
 use patterns::Found;
 use patterns::find_arm;
 use simple::run_simple;
+use told::ENDS;
+use told::charge;
+use told::hear;
+use told::left;
+use told::put;
+use told::spoken;
+use told::stopped;
+use told::taken;
+use told::told;
+use told::words;
 use values::plus;
 use values::signed;
 use values::size;
@@ -42,76 +50,43 @@ const NONE: u16 = 65535;
 // Half the number of int's values.
 const HALF: u16 = 32768;
 
-fn stopped(y: Refusal, run: Run) -> Ran
-    ensures { λ q. ⌜ q ≡ record { out = Stops y; run = run } ⌝ }
-{
-    Ran {
-        out: Outcome::Stops(y),
-        run: run,
-    }
-}
-
-fn ended(run: Run) -> Ran
-    ensures { λ q. ⌜ q ≡ record { out = Ends; run = run } ⌝ }
-{
-    Ran {
-        out: Outcome::Ends,
-        run: run,
-    }
-}
-
 // Blocked, before or after communicating.
-fn blocked(r: u16, run: Run) -> Ran
-    ensures { λ q. ⌜ q ≡ record { out = Stops (cond (run .spoken) (BlockedSpoken (row r)) (Blocked (row r))); run = run } ⌝ }
+fn blocked(r: u16, run: &[usize]) -> u32
+    requires { ⌜ 5 ≤ length (now run) ⌝ }
+    ensures { λ n. ⌜ outcomeOf n ≡ Stops (cond (runOf (now (run .entry)) .spoken) (BlockedSpoken (row r)) (Blocked (row r))) ⌝ }
 {
-    stopped(blocked_at(r, run.spoken), run)
-}
-
-// One unit less.
-fn charged(run: Run) -> Run
-    requires { ⌜ 1 ≤ run .left ⌝ }
-    ensures { λ r. ⌜ r ≡ record { words = run .words; left = run .left - 1; spoken = run .spoken; gate = run .gate; count = run .count } ⌝ }
-{
-    Run {
-        words: run.words,
-        left: run.left - 1,
-        spoken: run.spoken,
-        gate: run.gate,
-        count: run.count,
-    }
+    stopped(blocked_at(r, spoken(run)))
 }
 
 // One unit for a further test, where the body ended.
-fn again(r: u16, q: Ran) -> Ran
-    ensures { λ p. ⌜ Turned r q p ⌝ }
+fn again(r: u16, p: u32, run: &mut [usize]) -> u32
+    requires { ⌜ 5 ≤ length (now run) ⌝ }
+    ensures { λ n. ⌜ Turned r (ranOf p (now (run .entry))) (ranOf n (now (run .exit))) ⌝ }
 {
-    let out = q.out;
-    match out {
-        Outcome::Ends => {
-            if q.run.left == 0 {
-                return stopped(Refusal::BudgetSpent(Row(r)), q.run);
-            }
-            ended(charged(q.run))
-        }
-        _ => q,
+    if p != ENDS {
+        return p;
     }
+    if left(run) == 0 {
+        return stopped(Refusal::BudgetSpent(Row(r)));
+    }
+    charge(run);
+    ENDS
 }
 
 // V := V + 1 of a for, where its body ended.
-fn onward(r: u16, v: u16, q: Ran, store: &mut [i32]) -> Ran
-    requires { ⌜ SlotOf q v (now store) ⌝ }
-    ensures { λ p. ⌜ Onward r v q (now (store .entry)) p (now (store .exit)) ⌝ }
+fn onward(r: u16, v: u16, p: u32, store: &mut [i32]) -> u32
+    requires { ⌜ SlotOf (outcomeOf p) v (now store) ⌝ }
+    ensures { λ n. ⌜ Onward r v (outcomeOf p) (now (store .entry)) (outcomeOf n) (now (store .exit)) ⌝ }
 {
-    let out = q.out;
-    match out {
-        Outcome::Ends => match value(store, v) {
-            Value::Is(z) => {
-                store[v as usize] = plus(HALF, z, 1);
-                q
-            }
-            Value::Unknown => stopped(Refusal::Undefined(Row(r)), q.run),
-        },
-        _ => q,
+    if p != ENDS {
+        return p;
+    }
+    match value(store, v) {
+        Value::Is(z) => {
+            store[v as usize] = plus(HALF, z, 1);
+            ENDS
+        }
+        Value::Unknown => stopped(Refusal::Undefined(Row(r))),
     }
 }
 
@@ -132,109 +107,129 @@ fn at_most(store: &[i32], v: u16, high: i32) -> Tested
     }
 }
 
-// A unit on entering the row, before its effect; then what the row says.
-pub fn run_action(
+// An action that holds no other.
+fn run_leaf(
     image: &[u8],
-    i: Image,
     r: u16,
     store: &mut [i32],
     script: &[u8],
     values: &mut [i32],
-    run: Run,
-) -> Ran
-    requires { ⌜ Running action (now image) i r (now store) (now values) ⌝ }
-    ensures { λ q. ⌜ resultOf q (now (store .exit)) (now (values .exit)) ≡ exec (tablesOf (now (image .entry))) (actionAt (tablesOf (now (image .entry))) r) (now (script .entry)) (stateOf run (now (store .entry)) (now (values .entry))) ⌝ }
+    run: &mut [usize],
+) -> u32
+    requires { ⌜ Simple (now image) (trailerOf (now image)) r (now store) (now values) × (5 ≤ length (now run)) ⌝ }
+    ensures { λ n. ⌜ resultOf (ranOf n (now (run .exit))) (now (store .exit)) (now (values .exit)) ≡ execAct (tablesOf (now (image .entry))) (actOf (actionAt (tablesOf (now (image .entry))) r)) (now (script .entry)) r (stateOf (runOf (now (run .entry))) (now (store .entry)) (now (values .entry))) ⌝ }
 {
-    if run.left == 0 {
-        return stopped(Refusal::BudgetSpent(Row(r)), run);
+    let i = trailer(image);
+    let now = taken(run);
+    let q = run_simple(image, i, r, store, script, values, now);
+    put(q.run, run);
+    let out = q.out;
+    told(out)
+}
+
+// A unit on entering the row, before its effect; then what the row says.
+pub fn run_action(
+    image: &[u8],
+    rows: u16,
+    r: u16,
+    store: &mut [i32],
+    script: &[u8],
+    values: &mut [i32],
+    run: &mut [usize],
+) -> u32
+    requires { ⌜ Running action (now image) rows r (now store) (now values) × (5 ≤ length (now run)) ⌝ }
+    ensures { λ n. ⌜ resultOf (ranOf n (now (run .exit))) (now (store .exit)) (now (values .exit)) ≡ exec (tablesOf (now (image .entry))) (actionAt (tablesOf (now (image .entry))) r) (now (script .entry)) (stateOf (runOf (now (run .entry))) (now (store .entry)) (now (values .entry))) ⌝ }
+{
+    if left(run) == 0 {
+        return stopped(Refusal::BudgetSpent(Row(r)));
     }
-    let paid = charged(run);
-    let w = row(image, i.rows, r);
+    charge(run);
+    let w = row(image, rows, r);
     let code = w.code;
     match code {
-        54 => run_both(image, i, w.a, w.b, store, script, values, paid),
-        55 => run_select(image, i, r, w.a, store, script, values, paid),
-        56 => run_case(image, i, r, w.a, w.b, store, script, values, paid),
-        59 => run_while(image, i, r, w.a, w.b, store, script, values, paid),
-        60 => run_for(image, i, r, w.a, w.b, store, script, values, paid),
-        _ => run_simple(image, i, r, store, script, values, paid),
+        54 => run_both(image, rows, w.a, w.b, store, script, values, run),
+        55 => run_select(image, rows, r, w.a, store, script, values, run),
+        56 => run_case(image, rows, r, w.a, w.b, store, script, values, run),
+        59 => run_while(image, rows, r, w.a, w.b, store, script, values, run),
+        60 => run_for(image, rows, r, w.a, w.b, store, script, values, run),
+        _ => run_leaf(image, r, store, script, values, run),
     }
 }
 
 // a, and b where a ended.
 fn run_both(
     image: &[u8],
-    i: Image,
+    rows: u16,
     a: u16,
     b: u16,
     store: &mut [i32],
     script: &[u8],
     values: &mut [i32],
-    run: Run,
-) -> Ran
-    requires { ⌜ Running action (now image) i a (now store) (now values) × Running action (now image) i b (now store) (now values) ⌝ }
-    ensures { λ q. ⌜ resultOf q (now (store .exit)) (now (values .exit)) ≡ andThen (exec (tablesOf (now (image .entry))) (actionAt (tablesOf (now (image .entry))) a) (now (script .entry)) (stateOf run (now (store .entry)) (now (values .entry)))) (exec (tablesOf (now (image .entry))) (actionAt (tablesOf (now (image .entry))) b) (now (script .entry))) ⌝ }
+    run: &mut [usize],
+) -> u32
+    requires { ⌜ (Running action (now image) rows a (now store) (now values) × Running action (now image) rows b (now store) (now values)) × (5 ≤ length (now run)) ⌝ }
+    ensures { λ n. ⌜ resultOf (ranOf n (now (run .exit))) (now (store .exit)) (now (values .exit)) ≡ andThen (exec (tablesOf (now (image .entry))) (actionAt (tablesOf (now (image .entry))) a) (now (script .entry)) (stateOf (runOf (now (run .entry))) (now (store .entry)) (now (values .entry)))) (exec (tablesOf (now (image .entry))) (actionAt (tablesOf (now (image .entry))) b) (now (script .entry))) ⌝ }
 {
-    let q = run_action(image, i, a, store, script, values, run);
-    let out = q.out;
-    match out {
-        Outcome::Ends => run_action(image, i, b, store, script, values, q.run),
-        _ => q,
+    let n = run_action(image, rows, a, store, script, values, run);
+    if n != ENDS {
+        return n;
     }
+    run_action(image, rows, b, store, script, values, run)
 }
 
 // The branch that the script's next word names; blocked where there is none.
 fn run_select(
     image: &[u8],
-    i: Image,
+    rows: u16,
     r: u16,
     a: u16,
     store: &mut [i32],
     script: &[u8],
     values: &mut [i32],
-    run: Run,
-) -> Ran
-    requires { ⌜ RunningList branch (now image) i a (now store) (now values) ⌝ }
-    ensures { λ q. ⌜ resultOf q (now (store .exit)) (now (values .exit)) ≡ execAct (tablesOf (now (image .entry))) (select (branchesOf (tablesOf (now (image .entry))) (actionAt (tablesOf (now (image .entry)))) (listAt (tablesOf (now (image .entry))) a))) (now (script .entry)) r (stateOf run (now (store .entry)) (now (values .entry))) ⌝ }
+    run: &mut [usize],
+) -> u32
+    requires { ⌜ RunningList branch (now image) rows a (now store) (now values) × (5 ≤ length (now run)) ⌝ }
+    ensures { λ n. ⌜ resultOf (ranOf n (now (run .exit))) (now (store .exit)) (now (values .exit)) ≡ execAct (tablesOf (now (image .entry))) (select (branchesOf (tablesOf (now (image .entry))) (actionAt (tablesOf (now (image .entry)))) (listAt (tablesOf (now (image .entry))) a))) (now (script .entry)) r (stateOf (runOf (now (run .entry))) (now (store .entry)) (now (values .entry))) ⌝ }
 {
     if a == NONE {
         return blocked(r, run);
     }
-    if script.len() / 4 <= run.words {
-        return stopped(Refusal::ScriptEnded(Row(r)), run);
+    let k = words(run);
+    if script.len() / 4 <= k {
+        return stopped(Refusal::ScriptEnded(Row(r)));
     }
-    let z = word(script, run.words);
-    let next = at_word(run, run.words + 1);
+    let z = word(script, k);
+    hear(run);
     if z < 0 {
-        return stopped(Refusal::WordOutOfRange(Row(r)), next);
+        return stopped(Refusal::WordOutOfRange(Row(r)));
     }
-    run_branches(image, i, r, a, size(z), store, script, values, next)
+    run_branches(image, rows, r, a, size(z), store, script, values, run)
 }
 
-// Branch number n, 0 is the first.
+// Branch number k, 0 is the first.
 fn run_branches(
     image: &[u8],
-    i: Image,
+    rows: u16,
     r: u16,
     first: u16,
-    n: u32,
+    k: u32,
     store: &mut [i32],
     script: &[u8],
     values: &mut [i32],
-    run: Run,
-) -> Ran
-    requires { ⌜ RunningList branch (now image) i first (now store) (now values) ⌝ }
-    ensures { λ q. ⌜ resultOf q (now (store .exit)) (now (values .exit)) ≡ execBranch (tablesOf (now (image .entry))) (branchesOf (tablesOf (now (image .entry))) (actionAt (tablesOf (now (image .entry)))) (listAt (tablesOf (now (image .entry))) first)) (pos n) (now (script .entry)) r (stateOf run (now (store .entry)) (now (values .entry))) ⌝ }
+    run: &mut [usize],
+) -> u32
+    requires { ⌜ RunningList branch (now image) rows first (now store) (now values) × (5 ≤ length (now run)) ⌝ }
+    ensures { λ n. ⌜ resultOf (ranOf n (now (run .exit))) (now (store .exit)) (now (values .exit)) ≡ execBranch (tablesOf (now (image .entry))) (branchesOf (tablesOf (now (image .entry))) (actionAt (tablesOf (now (image .entry)))) (listAt (tablesOf (now (image .entry))) first)) (pos k) (now (script .entry)) r (stateOf (runOf (now (run .entry))) (now (store .entry)) (now (values .entry))) ⌝ }
 {
     let mut here = first;
-    let mut ahead = n;
+    let mut ahead = k;
     loop {
         if here == NONE {
-            return stopped(Refusal::WordOutOfRange(Row(r)), run);
+            return stopped(Refusal::WordOutOfRange(Row(r)));
         }
-        let w = row(image, i.rows, here);
+        let w = row(image, rows, here);
         if ahead == 0 {
-            return run_action(image, i, w.a, store, script, values, run);
+            return run_action(image, rows, w.a, store, script, values, run);
         }
         here = w.b;
         ahead -= 1;
@@ -244,73 +239,71 @@ fn run_branches(
 // The first arm that matches the subject.
 fn run_case(
     image: &[u8],
-    i: Image,
+    rows: u16,
     r: u16,
     a: u16,
     b: u16,
     store: &mut [i32],
     script: &[u8],
     values: &mut [i32],
-    run: Run,
-) -> Ran
-    requires { ⌜ RunningCase (now image) i a b (now store) (now values) ⌝ }
-    ensures { λ q. ⌜ resultOf q (now (store .exit)) (now (values .exit)) ≡ execAct (tablesOf (now (image .entry))) (case (expressionAt (tablesOf (now (image .entry))) a) (armsOf (tablesOf (now (image .entry))) (actionAt (tablesOf (now (image .entry)))) (listAt (tablesOf (now (image .entry))) b))) (now (script .entry)) r (stateOf run (now (store .entry)) (now (values .entry))) ⌝ }
+    run: &mut [usize],
+) -> u32
+    requires { ⌜ RunningCase (now image) rows a b (now store) (now values) × (5 ≤ length (now run)) ⌝ }
+    ensures { λ n. ⌜ resultOf (ranOf n (now (run .exit))) (now (store .exit)) (now (values .exit)) ≡ execAct (tablesOf (now (image .entry))) (case (expressionAt (tablesOf (now (image .entry))) a) (armsOf (tablesOf (now (image .entry))) (actionAt (tablesOf (now (image .entry)))) (listAt (tablesOf (now (image .entry))) b))) (now (script .entry)) r (stateOf (runOf (now (run .entry))) (now (store .entry)) (now (values .entry))) ⌝ }
 {
-    match eval(image, i.rows, a, store) {
-        Value::Is(z) => run_arms(image, i, r, b, z, store, script, values, run),
-        Value::Unknown => stopped(Refusal::Undefined(Row(r)), run),
+    match eval(image, rows, a, store) {
+        Value::Is(z) => run_arms(image, rows, r, b, z, store, script, values, run),
+        Value::Unknown => stopped(Refusal::Undefined(Row(r))),
     }
 }
 
 // The first arm that matches z; blocked where none does.
 fn run_arms(
     image: &[u8],
-    i: Image,
+    rows: u16,
     r: u16,
     first: u16,
     z: i32,
     store: &mut [i32],
     script: &[u8],
     values: &mut [i32],
-    run: Run,
-) -> Ran
-    requires { ⌜ RunningArms (now image) i first z (now store) (now values) ⌝ }
-    ensures { λ q. ⌜ resultOf q (now (store .exit)) (now (values .exit)) ≡ execArms (tablesOf (now (image .entry))) (armsOf (tablesOf (now (image .entry))) (actionAt (tablesOf (now (image .entry)))) (listAt (tablesOf (now (image .entry))) first)) z (now (script .entry)) r (stateOf run (now (store .entry)) (now (values .entry))) ⌝ }
+    run: &mut [usize],
+) -> u32
+    requires { ⌜ RunningArms (now image) rows first z (now store) (now values) × (5 ≤ length (now run)) ⌝ }
+    ensures { λ n. ⌜ resultOf (ranOf n (now (run .exit))) (now (store .exit)) (now (values .exit)) ≡ execArms (tablesOf (now (image .entry))) (armsOf (tablesOf (now (image .entry))) (actionAt (tablesOf (now (image .entry)))) (listAt (tablesOf (now (image .entry))) first)) z (now (script .entry)) r (stateOf (runOf (now (run .entry))) (now (store .entry)) (now (values .entry))) ⌝ }
 {
-    match find_arm(image, i.rows, first, z, store) {
-        Found::Arm(a) => run_action(image, i, a, store, script, values, run),
+    match find_arm(image, rows, first, z, store) {
+        Found::Arm(a) => run_action(image, rows, a, store, script, values, run),
         Found::NoArm => blocked(r, run),
-        Found::Unsure => stopped(Refusal::Undefined(Row(r)), run),
+        Found::Unsure => stopped(Refusal::Undefined(Row(r))),
     }
 }
 
 // While e do a; one unit for each further test.
 fn run_while(
     image: &[u8],
-    i: Image,
+    rows: u16,
     r: u16,
     e: u16,
     a: u16,
     store: &mut [i32],
     script: &[u8],
     values: &mut [i32],
-    run: Run,
-) -> Ran
-    requires { ⌜ RunningLoop (now image) i r e a (now store) (now values) ⌝ }
-    ensures { λ q. ⌜ resultOf q (now (store .exit)) (now (values .exit)) ≡ looping (suc (run .left)) (tablesOf (now (image .entry))) (expressionAt (tablesOf (now (image .entry))) e) (exec (tablesOf (now (image .entry))) (actionAt (tablesOf (now (image .entry))) a) (now (script .entry))) r (stateOf run (now (store .entry)) (now (values .entry))) ⌝ }
+    run: &mut [usize],
+) -> u32
+    requires { ⌜ RunningLoop (now image) rows r e a (now store) (now values) × (5 ≤ length (now run)) ⌝ }
+    ensures { λ n. ⌜ resultOf (ranOf n (now (run .exit))) (now (store .exit)) (now (values .exit)) ≡ looping (suc (runOf (now (run .entry)) .left)) (tablesOf (now (image .entry))) (expressionAt (tablesOf (now (image .entry))) e) (exec (tablesOf (now (image .entry))) (actionAt (tablesOf (now (image .entry))) a) (now (script .entry))) r (stateOf (runOf (now (run .entry))) (now (store .entry)) (now (values .entry))) ⌝ }
 {
-    let mut now = run;
     loop {
-        match test(image, i.rows, e, store) {
-            Tested::Fails => return ended(now),
-            Tested::Unsure => return stopped(Refusal::Undefined(Row(r)), now),
+        match test(image, rows, e, store) {
+            Tested::Fails => return ENDS,
+            Tested::Unsure => return stopped(Refusal::Undefined(Row(r))),
             Tested::Holds => {}
         }
-        let q = again(r, run_action(image, i, a, store, script, values, now));
-        let out = q.out;
-        match out {
-            Outcome::Ends => now = q.run,
-            _ => return q,
+        let p = run_action(image, rows, a, store, script, values, run);
+        let n = again(r, p, run);
+        if n != ENDS {
+            return n;
         }
     }
 }
@@ -318,35 +311,33 @@ fn run_while(
 // For range g do a: V := low; while V <= high do a; V := V + 1. The assignments cost nothing.
 fn run_for(
     image: &[u8],
-    i: Image,
+    rows: u16,
     r: u16,
     g: u16,
     a: u16,
     store: &mut [i32],
     script: &[u8],
     values: &mut [i32],
-    run: Run,
-) -> Ran
-    requires { ⌜ RunningFor (now image) i r g a (now store) (now values) ⌝ }
-    ensures { λ q. ⌜ resultOf q (now (store .exit)) (now (values .exit)) ≡ execAct (tablesOf (now (image .entry))) (forOf (fieldsOf (tablesOf (now (image .entry))) g) (actionAt (tablesOf (now (image .entry))) a)) (now (script .entry)) r (stateOf run (now (store .entry)) (now (values .entry))) ⌝ }
+    run: &mut [usize],
+) -> u32
+    requires { ⌜ RunningFor (now image) rows r g a (now store) (now values) × (5 ≤ length (now run)) ⌝ }
+    ensures { λ n. ⌜ resultOf (ranOf n (now (run .exit))) (now (store .exit)) (now (values .exit)) ≡ execAct (tablesOf (now (image .entry))) (forOf (fieldsOf (tablesOf (now (image .entry))) g) (actionAt (tablesOf (now (image .entry))) a)) (now (script .entry)) r (stateOf (runOf (now (run .entry))) (now (store .entry)) (now (values .entry))) ⌝ }
 {
-    let w = row(image, i.rows, g);
+    let w = row(image, rows, g);
     let v = w.a;
     let high = signed(HALF, w.c);
     store[v as usize] = signed(HALF, w.b);
-    let mut now = run;
     loop {
         match at_most(store, v, high) {
-            Tested::Fails => return ended(now),
-            Tested::Unsure => return stopped(Refusal::Undefined(Row(r)), now),
+            Tested::Fails => return ENDS,
+            Tested::Unsure => return stopped(Refusal::Undefined(Row(r))),
             Tested::Holds => {}
         }
-        let p = run_action(image, i, a, store, script, values, now);
-        let q = again(r, onward(r, v, p, store));
-        let out = q.out;
-        match out {
-            Outcome::Ends => now = q.run,
-            _ => return q,
+        let p = run_action(image, rows, a, store, script, values, run);
+        let o = onward(r, v, p, store);
+        let n = again(r, o, run);
+        if n != ENDS {
+            return n;
         }
     }
 }

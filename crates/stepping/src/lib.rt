@@ -20,6 +20,9 @@ use model::Stepped;
 use model::Variable;
 use model::Verdict;
 use stages::image_verdict;
+use told::outcome;
+use told::put;
+use told::taken;
 use values::of_size;
 
 // Half the number of int's values.
@@ -102,22 +105,23 @@ fn try_step(
     requires { ⌜ Trying (now image) i q (now work) (now values) budget ⌝ }
     ensures { λ p. ⌜ resultOf p (now (work .exit)) (now (values .exit)) ≡ attempt (tablesOf (now (image .entry))) q (now (work .entry)) (now (script .entry)) budget ⌝ }
 {
-    let r = state_row(image, i, q);
-    run_action(
-        image,
-        i,
-        r,
-        work,
-        script,
-        values,
+    let mut run = [0usize; 5];
+    put(
         Run {
             words: 0,
-            left: budget,
+            left: budget as usize,
             spoken: false,
             gate: 0,
             count: 0,
         },
-    )
+        &mut run,
+    );
+    let r = state_row(image, i, q);
+    let n = run_action(image, i.rows, r, work, script, values, &mut run);
+    Ran {
+        out: outcome(n),
+        run: taken(&run),
+    }
 }
 
 // A step that nothing refuses, with a working copy and room for a label's values that its caller lends.

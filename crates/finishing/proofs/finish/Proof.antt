@@ -29,8 +29,11 @@ put-label-requires c κs = search needs
 cast-t18 : tie.Need-cast-t18
 cast-t18 c = search needs
 
-sub-t19 : tie.Need-sub-t19
-sub-t19 c = search needs
+cast-t19 : tie.Need-cast-t19
+cast-t19 c = search needs
+
+sub-t20 : tie.Need-sub-t20
+sub-t20 c = search needs
 
 returns : tie.Need-returns
 returns c =
@@ -64,7 +67,8 @@ finish-spec =
     copy-requires
     put-label-requires
     cast-t18
-    sub-t19
+    cast-t19
+    sub-t20
     returns
     returns-2
     same-length
