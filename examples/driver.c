@@ -14,12 +14,10 @@
 #include "ntif.h"
 
 enum {
-    LONGEST = 16816, /* bytes of an image */
-    STATES = 64,     /* states of an image */
-    VARIABLES = 2,   /* variables of the table writer */
-    Q = 2,           /* its parameter's value */
-    UNITS = 100,     /* for one step */
-    STEPS = 1000     /* for one run: an image from a file may go on for ever */
+    VARIABLES = 2, /* variables of the table writer */
+    Q = 2,         /* its parameter's value */
+    UNITS = 100,   /* for one step */
+    STEPS = 1000   /* for one run: an image from a file may go on for ever */
 };
 
 enum status { RAN = 0, REFUSED = 1, USAGE = 2 };
@@ -106,7 +104,7 @@ static void print_label(const uint8_t *label) {
 /* Steps from state 0 on. The table writer has no choice and receives nothing, so its script is empty. */
 static int run(const uint8_t *image, size_t length, uint8_t *store, size_t store_length) {
     static const uint8_t script[4] = {0};
-    uint8_t label[4 * NTIF_LABEL_WORDS];
+    uint8_t label[NTIF_LABEL_BYTES];
     uint32_t state = 0;
     int steps;
 
@@ -126,7 +124,7 @@ static int run(const uint8_t *image, size_t length, uint8_t *store, size_t store
 
 /* Check, start, run: what an automaton needs from its driver. */
 static int drive(const uint8_t *image, size_t length) {
-    uint8_t sets[8 * STATES];
+    uint8_t sets[NTIF_SETS_BYTES];
     uint8_t params[4];
     uint8_t store[4 * VARIABLES];
     uint64_t answer = ntif_check(image, length, sets, sizeof sets);
@@ -145,7 +143,7 @@ static int drive(const uint8_t *image, size_t length) {
 }
 
 int main(int argc, char **argv) {
-    static uint8_t file[LONGEST + 1];
+    static uint8_t file[NTIF_IMAGE_MOST + 1];
     size_t length;
 
     if (argc <= 1) {
