@@ -1,3 +1,4 @@
 pub mod Put
 pub mod Decimal
 pub mod Halving
+pub mod Pages

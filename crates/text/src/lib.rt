@@ -5,6 +5,7 @@ ghost use Prim.Native.Nat.{_+_, _≤_};
 ghost use lib.ListN.{length};
 ghost use Rattle.model.specs.Exports.{decimal, count};
 ghost use Rattle.text.specs.Put.{Put};
+ghost use Rattle.text.specs.Emit.{page, Emitted, literal};
 
 // Writes bytes from a byte on.
 pub fn put_bytes(text: &mut [u8], at: usize, bytes: &[u8]) -> usize
@@ -56,4 +57,50 @@ pub fn count(mask: u64, n: u16) -> u16
         v += 1;
     }
     found
+}
+
+// One byte more, if there is room.
+pub fn emit_byte(text: &mut [u8], at: usize, b: u8) -> usize
+    ensures { λ r. ⌜ Emitted (b ∷ []) (page at (now (text .entry))) (page r (now (text .exit))) ⌝ }
+{
+    if at < text.len() {
+        text[at] = b;
+        return at + 1;
+    }
+    at
+}
+
+// Bytes one after another, as many as there is room for.
+pub fn emit(text: &mut [u8], at: usize, bytes: &[u8]) -> usize
+    ensures { λ r. ⌜ Emitted (now (bytes .entry)) (page at (now (text .entry))) (page r (now (text .exit))) ⌝ }
+{
+    let mut end = at;
+    let mut j = 0;
+    while j < bytes.len() {
+        end = emit_byte(text, end, bytes[j]);
+        j += 1;
+    }
+    end
+}
+
+// A number's decimal digits, the last digit after those of its tenth.
+pub fn emit_number(text: &mut [u8], at: usize, n: u16) -> usize
+    ensures { λ r. ⌜ Emitted (decimal n []) (page at (now (text .entry))) (page r (now (text .exit))) ⌝ }
+{
+    if n < 10 {
+        return emit_byte(text, at, 48 + n as u8);
+    }
+    let last = emit_number(text, at, n / 10);
+    emit_byte(text, last, 48 + (n % 10) as u8)
+}
+
+// A number of two's complement.
+pub fn emit_literal(text: &mut [u8], at: usize, n: u16) -> usize
+    ensures { λ r. ⌜ Emitted (literal n) (page at (now (text .entry))) (page r (now (text .exit))) ⌝ }
+{
+    if n < 0x8000 {
+        return emit_number(text, at, n);
+    }
+    let digits = emit_byte(text, at, b'-');
+    emit_number(text, digits, 0xFFFF - n + 1)
 }
