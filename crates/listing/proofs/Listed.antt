@@ -17,11 +17,14 @@ answer-is Accepted masks sets = refl
 answer-is (Refused y) masks sets = refl
 
 module _ {s : List ℕ} {v : Verdict} {m : List ℕ} (g : Gave s v m) where
+  pub gave-verdict : v ≡ checkVerdict s (length (replicate {A = ℕ} 64 0))
+  unfolding check
+  gave-verdict = ap (λ (c : Checked). c .answer) (g .checked) ∙ answer-is _ _ _
+
   pub gave-located : (i : Image) → v ≡ Accepted → i ≡ trailerOf s → Located s i
-  unfolding check checkVerdict
+  unfolding checkVerdict
   gave-located i e t =
-      let a : checkVerdict s (length (replicate {A = ℕ} 64 0)) ≡ Accepted =
-      sym (answer-is _ _ _) ∙ ap (λ (c : Checked). c .answer) (sym (g .checked)) ∙ e in
+      let a : checkVerdict s (length (replicate {A = ℕ} 64 0)) ≡ Accepted = sym gave-verdict ∙ e in
       let p = passed s (after-both (imageVerdict s) _ a .0) in
       record { trailer = t; long = p .long; marked = p .marked; starts = rw t (p .starts) }
 

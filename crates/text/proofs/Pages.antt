@@ -2,8 +2,8 @@
 use mathlib.Core.{Path._≡_, Path.refl, Path.sym, Path.ap, Path._∙_, Bool.Bool, Bool.true, Bool.false, List.List, List.[], List._∷_, List._++_, List.append-assoc}
 use Prim.Native.Nat.{ℕ, suc, _+_, _-_, _/_, _%_, _<_, _≤_}
 use native.Mathlib.{Omega.arith, Numerals.add-one}
-use lib.{Dec.ltb, ListN.length, ListN.set, ListN.take, ListN.getD, Seq.take-suc}
-use borrow.Author.Tests.{lt-ltb, le-ltb}
+use lib.{Dec.ltb, ListN.length, ListN.set, ListN.length-set, ListN.take, ListN.getD, Seq.take-suc}
+use borrow.Author.Tests.{ltb-true, lt-ltb, le-ltb}
 use Rattle.model.specs.Exports.{decimal}
 use Rattle.text.specs.Emit.{Page, page, emitByte, emit, Emitted, literal}
 use Rattle.text.proofs.Decimal.{decimal-digit, decimal-tenth, decimal-append}
@@ -64,3 +64,20 @@ unfolding literal
 emit-minus n h l e f =
     let m : 0xFFFF - n + 1 ≡ 0x10000 - n = omega arith in
     rw (literal, le-ltb n 0x8000 h, ← m) (emit-then e f)
+
+-- a slice keeps its length, and what is written ends inside it
+byte-inside : (b : ℕ) (p : Page) → p .«end» ≤ length (p .text) → (emitByte b p .«end» ≤ length (p .text)) × (length (emitByte b p .text) ≡ length (p .text))
+unfolding emitByte
+byte-inside b p h = go (ltb (p .«end») (length (p .text))) refl
+  where
+    go : (t : Bool) → ltb (p .«end») (length (p .text)) ≡ t → (emitByte b p .«end» ≤ length (p .text)) × (length (emitByte b p .text) ≡ length (p .text))
+    go true e = rw (emitByte, e) (omega (arith, ltb-true (p .«end») (length (p .text)) e), simp length-set)
+    go false e = rw (emitByte, e) (h, refl)
+
+inside-of : (xs : List ℕ) (p : Page) → p .«end» ≤ length (p .text) → emit xs p .«end» ≤ length (emit xs p .text)
+unfolding emit
+inside-of [] p h = h
+inside-of (x ∷ xs) p h = let i = byte-inside x p h in inside-of xs (emitByte x p) (omega arith)
+
+pub emit-inside : {xs : List ℕ} {p q : Page} → Emitted xs p q → p .«end» ≤ length (p .text) → q .«end» ≤ length (q .text)
+emit-inside {xs} {p} e h = rw (e .is) (inside-of xs p h)
