@@ -157,7 +157,7 @@ notation =
     -- 84: gates
     "gates: 0, G1 is tauE" ∷
     -- 85: the initial condition
-    "  condition AE" ∷
+    "condition: AE" ∷
     -- 86
     "Mcondition in row 0E" ∷
     -- 87: states
@@ -214,6 +214,10 @@ notation =
     "}U" ∷
     -- 113
     "  refused [label=\"" ∷
+    -- 114: gates on the way
+    " tau" ∷
+    -- 115
+    " G0" ∷
     []
     )
     )

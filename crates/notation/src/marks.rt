@@ -14,7 +14,7 @@ use text::emit_byte;
 use text::emit_literal;
 use text::emit_number;
 
-const LENGTH: usize = 1481;
+const LENGTH: usize = 1489;
 
 // The notation (specs/Table.antt says what its lines are).
 const NOTATION: [u8; LENGTH] = *b"\
@@ -81,7 +81,7 @@ const NOTATION: [u8; LENGTH] = *b"\
     \x20 V0 6, parameterE\n\
     \x20 V0 6, second field 2E\n\
     gates: 0, G1 is tauE\n\
-    \x20 condition AE\n\
+    condition: AE\n\
     Mcondition in row 0E\n\
     statesE\n\
     MS0 in row 1E\n\
@@ -109,7 +109,9 @@ const NOTATION: [u8; LENGTH] = *b"\
     \x20 S0 -> S1 [label=\"\n\
     \"]U\n\
     }U\n\
-    \x20 refused [label=\"\n";
+    \x20 refused [label=\"\n\
+    \x20tau\n\
+    \x20G0\n";
 
 // A byte of the notation; past its end a line's end.
 pub(crate) fn notation_byte(j: usize) -> u8
