@@ -205,7 +205,7 @@ notation =
     -- 108: a graph
     "digraph automaton {U  node [shape=box, fontname=monospace]U" ∷
     -- 109
-    "  S0 [label=\"state S0EB\"]U" ∷
+    "  S0 [label=\"Mstate S0EB\"]U" ∷
     -- 110
     "  S0 -> S1 [label=\"" ∷
     -- 111

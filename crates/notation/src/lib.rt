@@ -29,8 +29,8 @@ use whole::put_refusal;
 use whole::put_shown;
 
 mod marks;
-mod tables;
-mod whole;
+pub mod tables;
+pub mod whole;
 
 // No row.
 const NONE: u16 = 0xFFFF;
@@ -57,7 +57,7 @@ pub struct Filling {
 }
 
 // The fields of a row; zeros where there is no such row.
-fn row_fields(image: &[u8], i: Image, r: u16) -> Fields
+pub fn row_fields(image: &[u8], i: Image, r: u16) -> Fields
     requires { ⌜ Located (now image) i ⌝ }
     ensures { λ w. ⌜ w ≡ fieldsOf (tablesOf (now (image .entry))) r ⌝ }
 {

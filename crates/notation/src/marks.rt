@@ -14,7 +14,7 @@ use text::emit_byte;
 use text::emit_literal;
 use text::emit_number;
 
-const LENGTH: usize = 1489;
+const LENGTH: usize = 1490;
 
 // The notation (specs/Table.antt says what its lines are).
 const NOTATION: [u8; LENGTH] = *b"\
@@ -105,7 +105,7 @@ const NOTATION: [u8; LENGTH] = *b"\
     refused 1: initialisation; state 0E\n\
     refused 1: speech; state 0E\n\
     digraph automaton {U  node [shape=box, fontname=monospace]U\n\
-    \x20 S0 [label=\"state S0EB\"]U\n\
+    \x20 S0 [label=\"Mstate S0EB\"]U\n\
     \x20 S0 -> S1 [label=\"\n\
     \"]U\n\
     }U\n\

@@ -171,14 +171,7 @@ fn put_entry(image: &[u8], i: Image, st: Style, k: u32, q: u16, text: &mut [u8],
 }
 
 // All lines of a table.
-pub(crate) fn put_table(
-    image: &[u8],
-    i: Image,
-    st: Style,
-    k: u32,
-    text: &mut [u8],
-    at: usize,
-) -> usize
+pub fn put_table(image: &[u8], i: Image, st: Style, k: u32, text: &mut [u8], at: usize) -> usize
     requires { ⌜ Located (now image) i ⌝ }
     ensures { λ e. ⌜ Emitted (tableText (tablesOf (now (image .entry))) i st k) (page at (now (text .entry))) (page e (now (text .exit))) ⌝ }
 {

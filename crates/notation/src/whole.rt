@@ -23,7 +23,7 @@ use text::emit;
 use text::emit_number;
 
 // A line without rows, by its fields.
-pub(crate) fn put_said(
+pub fn put_said(
     st: Style,
     k: u32,
     a: u16,
@@ -176,7 +176,7 @@ pub(crate) fn put_accepted(
     put_sets(st, variables, sets, states, text, a)
 }
 
-pub(crate) fn put_refusal(y: Refusal, st: Style, text: &mut [u8], at: usize) -> usize
+pub fn put_refusal(y: Refusal, st: Style, text: &mut [u8], at: usize) -> usize
     ensures { λ e. ⌜ Emitted (refusalText st y) (page at (now (text .entry))) (page e (now (text .exit))) ⌝ }
 {
     let n = y.number();
@@ -212,7 +212,7 @@ fn state_place(n: u16, p: u16) -> u16
 }
 
 // The style that points at a refusal's place.
-pub(crate) fn pointing(n: u16, p: u16, graph: bool) -> Style
+pub fn pointing(n: u16, p: u16, graph: bool) -> Style
     ensures { λ r. ⌜ r ≡ pointing n p graph ⌝ }
 {
     let place = row_place(n, p);
