@@ -14,6 +14,7 @@ use Rattle.notation.specs.declared.Style.{Style}
 use Rattle.notation.specs.Texts.{each}
 use Rattle.notation.specs.Whole.{fieldsWith, wordsText, tableText, refusalText, pointing, pointless}
 use Rattle.graph.specs.declared.{Said.Said, Parts.Parts}
+use Rattle.notation.specs.Lines.{GRAPH, BOX, ARROW, LABEL-END, GRAPH-END, REFUSED-BOX, SPOKEN-TAU, SPOKEN-GATE}
 
 abbrev pub saying : ℕ → Bool → Said
 saying gates quiet = record { gates = gates; quiet = quiet }
@@ -101,7 +102,7 @@ saidAfter (suc n) x r m =
 
 -- the gates of a label, or that nothing is said
 unfoldable pub gateLine : ℕ → ℕ
-gateLine g = elim (eqb g 0) [ true ↦ 114 | false ↦ 115 ]
+gateLine g = elim (eqb g 0) [ true ↦ SPOKEN-TAU | false ↦ SPOKEN-GATE ]
 
 unfoldable pub gateText : ℕ → ℕ → List ℕ
 gateText gates g = elim (inside (bit g) gates) [ true ↦ wordsText (pointless true) (gateLine g) (fieldsWith g 0 0) 0 | false ↦ [] ]
@@ -117,7 +118,7 @@ labelText m = elim (reached m) [ true ↦ quietText (m .quiet) ++ each (gateText
 unfoldable pub arrowText : ℕ → Fields → Said → List ℕ
 arrowText q w m =
     elim (eqb (w .code) 53) [
-      | true ↦ wordsText (pointless true) 110 (fieldsWith q (w .a) 0) 0 ++ labelText m ++ wordsText (pointless true) 111 (fieldsWith 0 0 0) 0
+      | true ↦ wordsText (pointless true) ARROW (fieldsWith q (w .a) 0) 0 ++ labelText m ++ wordsText (pointless true) LABEL-END (fieldsWith 0 0 0) 0
       | false ↦ []
     ]
 
@@ -139,18 +140,18 @@ stateArrows x q = arrows (limits .rows) x q (getD (x .states) q none) silent
 -- the whole graph, or one node with a refusal
 unfoldable pub graphText : Tables → Image → Style → List ℕ
 graphText x i st =
-    wordsText st 108 (fieldsWith 0 0 0) 0
-    ++ tableText x i st 109
+    wordsText st GRAPH (fieldsWith 0 0 0) 0
+    ++ tableText x i st BOX
     ++ each (stateArrows x) (stateCount i)
-    ++ wordsText st 112 (fieldsWith 0 0 0) 0
+    ++ wordsText st GRAPH-END (fieldsWith 0 0 0) 0
 
 unfoldable pub refusedText : Style → Refusal → List ℕ
 refusedText st y =
-    wordsText st 108 (fieldsWith 0 0 0) 0
-    ++ wordsText st 113 (fieldsWith 0 0 0) 0
+    wordsText st GRAPH (fieldsWith 0 0 0) 0
+    ++ wordsText st REFUSED-BOX (fieldsWith 0 0 0) 0
     ++ refusalText st y
-    ++ wordsText st 111 (fieldsWith 0 0 0) 0
-    ++ wordsText st 112 (fieldsWith 0 0 0) 0
+    ++ wordsText st LABEL-END (fieldsWith 0 0 0) 0
+    ++ wordsText st GRAPH-END (fieldsWith 0 0 0) 0
 
 unfoldable pub drawnBy : List ℕ → Verdict → List ℕ
 drawnBy s Accepted = graphText (tablesOf s) (trailerOf s) (pointless true)

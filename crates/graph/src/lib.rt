@@ -19,6 +19,14 @@ use model::Image;
 use model::Refusal;
 use model::Verdict;
 use notation::Style;
+use notation::lines::ARROW;
+use notation::lines::BOX;
+use notation::lines::GRAPH;
+use notation::lines::GRAPH_END;
+use notation::lines::LABEL_END;
+use notation::lines::REFUSED_BOX;
+use notation::lines::SPOKEN_GATE;
+use notation::lines::SPOKEN_TAU;
 use notation::row_fields;
 use notation::tables::put_table;
 use notation::whole::pointing;
@@ -171,9 +179,9 @@ fn gate_line(g: u16) -> u32
     ensures { λ r. ⌜ r ≡ gateLine g ⌝ }
 {
     if g == 0 {
-        return 114;
+        return SPOKEN_TAU;
     }
-    115
+    SPOKEN_GATE
 }
 
 fn put_gate(gates: u64, g: u16, text: &mut [u8], at: usize) -> usize
@@ -227,9 +235,9 @@ fn put_arrow(q: u16, w: Fields, m: Said, text: &mut [u8], at: usize) -> usize
 {
     if w.code == 53 {
         let st = plain_style();
-        let a = put_said(st, 110, q, w.a, 0, 0, text, at);
+        let a = put_said(st, ARROW, q, w.a, 0, 0, text, at);
         let b = put_label(m, text, a);
-        return put_said(st, 111, 0, 0, 0, 0, text, b);
+        return put_said(st, LABEL_END, 0, 0, 0, 0, text, b);
     }
     at
 }
@@ -309,20 +317,20 @@ fn put_graph(image: &[u8], i: Image, st: Style, text: &mut [u8], at: usize) -> u
     requires { ⌜ Located (now image) i ⌝ }
     ensures { λ e. ⌜ Emitted (graphText (tablesOf (now (image .entry))) i st) (page at (now (text .entry))) (page e (now (text .exit))) ⌝ }
 {
-    let a = put_said(st, 108, 0, 0, 0, 0, text, at);
-    let b = put_table(image, i, st, 109, text, a);
+    let a = put_said(st, GRAPH, 0, 0, 0, 0, text, at);
+    let b = put_table(image, i, st, BOX, text, a);
     let c = put_arrows(image, i, text, b);
-    put_said(st, 112, 0, 0, 0, 0, text, c)
+    put_said(st, GRAPH_END, 0, 0, 0, 0, text, c)
 }
 
 fn put_refused(y: Refusal, st: Style, text: &mut [u8], at: usize) -> usize
     ensures { λ e. ⌜ Emitted (refusedText st y) (page at (now (text .entry))) (page e (now (text .exit))) ⌝ }
 {
-    let a = put_said(st, 108, 0, 0, 0, 0, text, at);
-    let b = put_said(st, 113, 0, 0, 0, 0, text, a);
+    let a = put_said(st, GRAPH, 0, 0, 0, 0, text, at);
+    let b = put_said(st, REFUSED_BOX, 0, 0, 0, 0, text, a);
     let c = put_refusal(y, st, text, b);
-    let d = put_said(st, 111, 0, 0, 0, 0, text, c);
-    put_said(st, 112, 0, 0, 0, 0, text, d)
+    let d = put_said(st, LABEL_END, 0, 0, 0, 0, text, c);
+    put_said(st, GRAPH_END, 0, 0, 0, 0, text, d)
 }
 
 // The graph, by what check gave with room for 64 sets.

@@ -9,6 +9,7 @@ use Rattle.model.specs.Exports.{decimal}
 use Rattle.text.specs.Emit.{bytes, literal}
 use Rattle.notation.specs.declared.{Aim.Aim, Style.Style}
 use Rattle.notation.specs.Table.{notation}
+use Rattle.notation.specs.Lines.{FALSE, TRUE, INT, VALUE, TAU, COMMUNICATE}
 
 -- what stands after k line ends
 unfoldable pub lineFrom : ℕ → List ℕ → List ℕ
@@ -134,10 +135,10 @@ leadText l = elim (eqb l 0) [ true ↦ [] | false ↦ elim (eqb l 1) [ true ↦ 
 
 -- the line of a constant, by its type and value, and of a communication, by its gate
 unfoldable pub constantLine : ℕ → ℕ → ℕ
-constantLine t n = elim (eqb t int) [ true ↦ 69 | false ↦ elim (eqb t bool) [ true ↦ elim (eqb n 0) [ true ↦ 67 | false ↦ 68 ] | false ↦ 70 ] ]
+constantLine t n = elim (eqb t int) [ true ↦ INT | false ↦ elim (eqb t bool) [ true ↦ elim (eqb n 0) [ true ↦ FALSE | false ↦ TRUE ] | false ↦ VALUE ] ]
 
 unfoldable pub gateLine : ℕ → ℕ
-gateLine g = elim (eqb g 0) [ true ↦ 71 | false ↦ 52 ]
+gateLine g = elim (eqb g 0) [ true ↦ TAU | false ↦ COMMUNICATE ]
 
 -- the line of a row
 unfoldable pub rowLine : Fields → ℕ

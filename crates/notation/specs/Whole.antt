@@ -13,6 +13,7 @@ use Rattle.text.specs.Emit.{bytes}
 use Rattle.notation.specs.declared.{Style.Style, Filling.Filling}
 use Rattle.notation.specs.Table.{notation}
 use Rattle.notation.specs.Texts.{lineFrom, each, aimAt, filled, rowText, lineText}
+use Rattle.notation.specs.Lines.{TYPE-TABLE, VARIABLE-TABLE, ROW-TABLE, IMAGE, STARTS, COUNTS, LENGTH, TYPES, BOOL-TYPE, INT-TYPE, OTHER-TYPE, VARIABLES, VARIABLE, PARAMETER, DAMAGED, GATES, CONDITION, CONDITION-ROW, STATES, STATE-ROW, STATE, ROWS, ROW, SET, SET-END, ACCEPTED, REFUSED}
 
 abbrev pub fieldsWith : ℕ → ℕ → ℕ → Fields
 fieldsWith a b c = record { code = 0; a = a; b = b; c = c }
@@ -26,10 +27,10 @@ wordsText st k w r = filled (λ t. []) st (aimAt r) w (lineFrom k notation)
 
 -- a type, a variable, a state and a row, each as a line
 unfoldable pub typeLine : ℕ → ℕ
-typeLine t = elim (eqb t bool) [ true ↦ 77 | false ↦ elim (eqb t int) [ true ↦ 78 | false ↦ 79 ] ]
+typeLine t = elim (eqb t bool) [ true ↦ BOOL-TYPE | false ↦ elim (eqb t int) [ true ↦ INT-TYPE | false ↦ OTHER-TYPE ] ]
 
 unfoldable pub variableLine : ℕ → ℕ
-variableLine p = elim (eqb p 0) [ true ↦ 81 | false ↦ elim (eqb p 1) [ true ↦ 82 | false ↦ 83 ] ]
+variableLine p = elim (eqb p 0) [ true ↦ VARIABLE | false ↦ elim (eqb p 1) [ true ↦ PARAMETER | false ↦ DAMAGED ] ]
 
 unfoldable pub typeFilling : Tables → ℕ → Filling
 typeFilling x t = filling (typeLine t) t (sizeOf x t) 0
@@ -41,24 +42,24 @@ unfoldable pub stateFilling : Tables → ℕ → ℕ → Filling
 stateFilling x k q = filling k q (getD (x .states) q none) 0
 
 unfoldable pub rowFilling : Tables → ℕ → Filling
-rowFilling x r = record { line = 91; fields = fieldsOf x r }
+rowFilling x r = record { line = ROW; fields = fieldsOf x r }
 
--- the tables by number: 0 types, 1 variables, 2 rows; from 3 on the states, as line k
+-- entry q of table k
 unfoldable pub fillingOf : Tables → ℕ → ℕ → Filling
 fillingOf x k q =
-    elim (eqb k 0) [
+    elim (eqb k TYPE-TABLE) [
       | true ↦ typeFilling x q
-      | false ↦ elim (eqb k 1) [
+      | false ↦ elim (eqb k VARIABLE-TABLE) [
         | true ↦ variableFilling x q
-        | false ↦ elim (eqb k 2) [ true ↦ rowFilling x q | false ↦ stateFilling x k q ]
+        | false ↦ elim (eqb k ROW-TABLE) [ true ↦ rowFilling x q | false ↦ stateFilling x k q ]
       ]
     ]
 
 unfoldable pub countOf : Image → ℕ → ℕ
 countOf i k =
-    elim (eqb k 0) [
+    elim (eqb k TYPE-TABLE) [
       | true ↦ typeCount i
-      | false ↦ elim (eqb k 1) [ true ↦ variableCount i | false ↦ elim (eqb k 2) [ true ↦ rowCount i | false ↦ stateCount i ] ]
+      | false ↦ elim (eqb k VARIABLE-TABLE) [ true ↦ variableCount i | false ↦ elim (eqb k ROW-TABLE) [ true ↦ rowCount i | false ↦ stateCount i ] ]
     ]
 
 unfoldable pub entryText : Tables → Style → ℕ → ℕ → List ℕ
@@ -69,44 +70,44 @@ tableText x i st k = each (entryText x st k) (countOf i k)
 
 -- 1, 2: the length alone (a longer image is not read on); 3: the trailer
 unfoldable pub lengthText : Style → List ℕ → List ℕ
-lengthText st s = wordsText st 72 (fieldsWith (min (length s) 0xFFFF) 0 0) 0
+lengthText st s = wordsText st IMAGE (fieldsWith (min (length s) 0xFFFF) 0 0) 0
 
 unfoldable pub trailerText : Style → Image → List ℕ
 trailerText st i =
-    wordsText st 73 (fieldsWith (i .types) (i .variables) (i .states)) 0
-    ++ wordsText st 74 (fieldsWith (i .rows) (i .gates) (i .condition)) 0
-    ++ wordsText st 75 (fieldsWith (i .length) 0 0) 0
+    wordsText st STARTS (fieldsWith (i .types) (i .variables) (i .states)) 0
+    ++ wordsText st COUNTS (fieldsWith (i .rows) (i .gates) (i .condition)) 0
+    ++ wordsText st LENGTH (fieldsWith (i .length) 0 0) 0
 
 -- 4: types, variables and gates too
 unfoldable pub tablesText : Tables → Image → Style → List ℕ
 tablesText x i st =
     trailerText st i
-    ++ wordsText st 76 (fieldsWith 0 0 0) 0
-    ++ tableText x i st 0
-    ++ wordsText st 80 (fieldsWith 0 0 0) 0
-    ++ tableText x i st 1
-    ++ wordsText st 84 (fieldsWith (i .gates) 0 0) 0
+    ++ wordsText st TYPES (fieldsWith 0 0 0) 0
+    ++ tableText x i st TYPE-TABLE
+    ++ wordsText st VARIABLES (fieldsWith 0 0 0) 0
+    ++ tableText x i st VARIABLE-TABLE
+    ++ wordsText st GATES (fieldsWith (i .gates) 0 0) 0
 
 -- 5 to 7: the states' rows, the condition's row and all rows as they are
 unfoldable pub rootsText : Tables → Image → Style → List ℕ
 rootsText x i st =
-    wordsText st 87 (fieldsWith 0 0 0) 0
-    ++ tableText x i st 88
-    ++ wordsText st 86 (fieldsWith (i .condition) 0 0) (stateCount i)
+    wordsText st STATES (fieldsWith 0 0 0) 0
+    ++ tableText x i st STATE-ROW
+    ++ wordsText st CONDITION-ROW (fieldsWith (i .condition) 0 0) (stateCount i)
 
 unfoldable pub rawText : Tables → Image → Style → List ℕ
 rawText x i st =
     tablesText x i st
     ++ rootsText x i st
-    ++ wordsText st 90 (fieldsWith 0 0 0) 0
-    ++ tableText x i st 2
+    ++ wordsText st ROWS (fieldsWith 0 0 0) 0
+    ++ tableText x i st ROW-TABLE
 
 -- free of 1 to 7: the condition and the states' actions in the report's notation
 unfoldable pub listingText : Tables → Image → Style → List ℕ
 listingText x i st =
     tablesText x i st
-    ++ lineText (limits .rows) x st 85 (fieldsWith (i .condition) 0 0) 0
-    ++ tableText x i st 89
+    ++ lineText (limits .rows) x st CONDITION (fieldsWith (i .condition) 0 0) 0
+    ++ tableText x i st STATE
 
 -- the variables below n in a set
 unfoldable pub memberText : ℕ → ℕ → List ℕ
@@ -115,14 +116,14 @@ memberText m v = elim (inside (bit v) m) [ true ↦ bytes " V" ++ decimal v [] |
 -- "variables surely defined on entering state s"
 unfoldable pub setText : Style → ℕ → List ℕ → ℕ → List ℕ
 setText st n sets q =
-    wordsText st 92 (fieldsWith q 0 0) 0 ++ each (memberText (getD sets q 0)) n ++ wordsText st 93 (fieldsWith 0 0 0) 0
+    wordsText st SET (fieldsWith q 0 0) 0 ++ each (memberText (getD sets q 0)) n ++ wordsText st SET-END (fieldsWith 0 0 0) 0
 
 unfoldable pub acceptedText : Style → Image → List ℕ → List ℕ
-acceptedText st i sets = wordsText st 94 (fieldsWith 0 0 0) 0 ++ each (setText st (variableCount i) sets) (stateCount i)
+acceptedText st i sets = wordsText st ACCEPTED (fieldsWith 0 0 0) 0 ++ each (setText st (variableCount i) sets) (stateCount i)
 
 -- a refusal in the words of 01's table, with its number and place
 unfoldable pub refusalText : Style → Refusal → List ℕ
-refusalText st y = wordsText st (95 + number y) (fieldsWith (place y) (number y) 0) 0
+refusalText st y = wordsText st (REFUSED + number y) (fieldsWith (place y) (number y) 0) 0
 
 -- 5 and 7 to 9 point at a row, 6, 11 and 12 at a state
 unfoldable pub rowPlace : ℕ → ℕ → ℕ

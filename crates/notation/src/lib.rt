@@ -28,6 +28,7 @@ use whole::put_listing;
 use whole::put_refusal;
 use whole::put_shown;
 
+pub mod lines;
 mod marks;
 pub mod tables;
 pub mod whole;

@@ -8,6 +8,12 @@ ghost use Rattle.notation.specs.Texts.{lineFrom, endsBy, blanks, padding
 use crate::Aim;
 use crate::NONE;
 use crate::Style;
+use crate::lines::COMMUNICATE;
+use crate::lines::FALSE;
+use crate::lines::INT;
+use crate::lines::TAU;
+use crate::lines::TRUE;
+use crate::lines::VALUE;
 use model::Fields;
 use text::emit;
 use text::emit_byte;
@@ -317,24 +323,24 @@ fn constant_line(t: u16, n: u16) -> u16
     ensures { λ r. ⌜ r ≡ constantLine t n ⌝ }
 {
     if t == 1 {
-        return 69;
+        return INT;
     }
     if t != 0 {
-        return 70;
+        return VALUE;
     }
     if n == 0 {
-        return 67;
+        return FALSE;
     }
-    68
+    TRUE
 }
 
 fn gate_line(g: u16) -> u16
     ensures { λ r. ⌜ r ≡ gateLine g ⌝ }
 {
     if g == 0 {
-        return 71;
+        return TAU;
     }
-    52
+    COMMUNICATE
 }
 
 // The line of a row.

@@ -11,6 +11,16 @@ ghost use Rattle.notation.specs.Inside.{EntryOf};
 use crate::Aim;
 use crate::Filling;
 use crate::Style;
+use crate::lines::BOOL_TYPE;
+use crate::lines::DAMAGED;
+use crate::lines::INT_TYPE;
+use crate::lines::OTHER_TYPE;
+use crate::lines::PARAMETER;
+use crate::lines::ROW;
+use crate::lines::ROW_TABLE;
+use crate::lines::TYPE_TABLE;
+use crate::lines::VARIABLE;
+use crate::lines::VARIABLE_TABLE;
 use crate::put_filled;
 use image::fields;
 use image::parameter;
@@ -69,24 +79,24 @@ fn type_line(t: u16) -> u32
     ensures { λ r. ⌜ r ≡ typeLine t ⌝ }
 {
     if t == 0 {
-        return 77;
+        return BOOL_TYPE;
     }
     if t == 1 {
-        return 78;
+        return INT_TYPE;
     }
-    79
+    OTHER_TYPE
 }
 
 fn variable_line(p: u16) -> u32
     ensures { λ r. ⌜ r ≡ variableLine p ⌝ }
 {
     if p == 0 {
-        return 81;
+        return VARIABLE;
     }
     if p == 1 {
-        return 82;
+        return PARAMETER;
     }
-    83
+    DAMAGED
 }
 
 fn filled_with(line: u32, a: u16, b: u16, c: u16) -> Filling
@@ -131,20 +141,20 @@ fn row_filling(image: &[u8], i: Image, r: u16) -> Filling
 {
     let w = fields(image, i, r);
     Filling {
-        line: 91,
+        line: ROW,
         fields: w,
     }
 }
 
-// Entry q of table k: 0 types, 1 variables, 2 rows; from 3 on the states, as line k.
+// Entry q of table k.
 fn filling_of(image: &[u8], i: Image, k: u32, q: u16) -> Filling
     requires { ⌜ EntryOf (now image) i k q ⌝ }
     ensures { λ f. ⌜ f ≡ fillingOf (tablesOf (now (image .entry))) k q ⌝ }
 {
     match k {
-        0 => type_filling(image, i, q),
-        1 => variable_filling(image, i, q),
-        2 => row_filling(image, i, q),
+        TYPE_TABLE => type_filling(image, i, q),
+        VARIABLE_TABLE => variable_filling(image, i, q),
+        ROW_TABLE => row_filling(image, i, q),
         _ => state_filling(image, i, k, q),
     }
 }
@@ -154,9 +164,9 @@ fn count_of(image: &[u8], i: Image, k: u32) -> u16
     ensures { λ n. ⌜ n ≡ countOf i k ⌝ }
 {
     match k {
-        0 => (i.variables - i.types) / 2,
-        1 => (i.states - i.variables) / 4,
-        2 => (i.length - 16 - i.rows) / 8,
+        TYPE_TABLE => (i.variables - i.types) / 2,
+        VARIABLE_TABLE => (i.states - i.variables) / 4,
+        ROW_TABLE => (i.length - 16 - i.rows) / 8,
         _ => (i.rows - i.states) / 2,
     }
 }

@@ -10,6 +10,26 @@ ghost use Rattle.notation.specs.Whole.{fieldsWith, wordsText, lengthText
 ghost use Rattle.notation.specs.Inside.{Shown};
 use crate::NONE;
 use crate::Style;
+use crate::lines::ACCEPTED;
+use crate::lines::CONDITION;
+use crate::lines::CONDITION_ROW;
+use crate::lines::COUNTS;
+use crate::lines::GATES;
+use crate::lines::IMAGE;
+use crate::lines::LENGTH;
+use crate::lines::REFUSED;
+use crate::lines::ROW_TABLE;
+use crate::lines::ROWS;
+use crate::lines::SET;
+use crate::lines::SET_END;
+use crate::lines::STARTS;
+use crate::lines::STATE;
+use crate::lines::STATE_ROW;
+use crate::lines::STATES;
+use crate::lines::TYPE_TABLE;
+use crate::lines::TYPES;
+use crate::lines::VARIABLE_TABLE;
+use crate::lines::VARIABLES;
 use crate::tables::put_line;
 use crate::tables::put_table;
 use crate::tables::put_words;
@@ -52,15 +72,15 @@ fn put_length(image: &[u8], st: Style, text: &mut [u8], at: usize) -> usize
     ensures { λ e. ⌜ Emitted (lengthText st (now (image .entry))) (page at (now (text .entry))) (page e (now (text .exit))) ⌝ }
 {
     let n = short_length(image);
-    put_said(st, 72, n, 0, 0, 0, text, at)
+    put_said(st, IMAGE, n, 0, 0, 0, text, at)
 }
 
 fn put_trailer(i: Image, st: Style, text: &mut [u8], at: usize) -> usize
     ensures { λ e. ⌜ Emitted (trailerText st i) (page at (now (text .entry))) (page e (now (text .exit))) ⌝ }
 {
-    let a = put_said(st, 73, i.types, i.variables, i.states, 0, text, at);
-    let b = put_said(st, 74, i.rows, i.gates, i.condition, 0, text, a);
-    put_said(st, 75, i.length, 0, 0, 0, text, b)
+    let a = put_said(st, STARTS, i.types, i.variables, i.states, 0, text, at);
+    let b = put_said(st, COUNTS, i.rows, i.gates, i.condition, 0, text, a);
+    put_said(st, LENGTH, i.length, 0, 0, 0, text, b)
 }
 
 fn put_tables(image: &[u8], i: Image, st: Style, text: &mut [u8], at: usize) -> usize
@@ -68,21 +88,21 @@ fn put_tables(image: &[u8], i: Image, st: Style, text: &mut [u8], at: usize) -> 
     ensures { λ e. ⌜ Emitted (tablesText (tablesOf (now (image .entry))) i st) (page at (now (text .entry))) (page e (now (text .exit))) ⌝ }
 {
     let a = put_trailer(i, st, text, at);
-    let b = put_said(st, 76, 0, 0, 0, 0, text, a);
-    let c = put_table(image, i, st, 0, text, b);
-    let d = put_said(st, 80, 0, 0, 0, 0, text, c);
-    let e = put_table(image, i, st, 1, text, d);
-    put_said(st, 84, i.gates, 0, 0, 0, text, e)
+    let b = put_said(st, TYPES, 0, 0, 0, 0, text, a);
+    let c = put_table(image, i, st, TYPE_TABLE, text, b);
+    let d = put_said(st, VARIABLES, 0, 0, 0, 0, text, c);
+    let e = put_table(image, i, st, VARIABLE_TABLE, text, d);
+    put_said(st, GATES, i.gates, 0, 0, 0, text, e)
 }
 
 fn put_roots(image: &[u8], i: Image, st: Style, text: &mut [u8], at: usize) -> usize
     requires { ⌜ Located (now image) i ⌝ }
     ensures { λ e. ⌜ Emitted (rootsText (tablesOf (now (image .entry))) i st) (page at (now (text .entry))) (page e (now (text .exit))) ⌝ }
 {
-    let a = put_said(st, 87, 0, 0, 0, 0, text, at);
-    let b = put_table(image, i, st, 88, text, a);
+    let a = put_said(st, STATES, 0, 0, 0, 0, text, at);
+    let b = put_table(image, i, st, STATE_ROW, text, a);
     let states = (i.rows - i.states) / 2;
-    put_said(st, 86, i.condition, 0, 0, states, text, b)
+    put_said(st, CONDITION_ROW, i.condition, 0, 0, states, text, b)
 }
 
 fn put_raw(image: &[u8], i: Image, st: Style, text: &mut [u8], at: usize) -> usize
@@ -91,8 +111,8 @@ fn put_raw(image: &[u8], i: Image, st: Style, text: &mut [u8], at: usize) -> usi
 {
     let a = put_tables(image, i, st, text, at);
     let b = put_roots(image, i, st, text, a);
-    let c = put_said(st, 90, 0, 0, 0, 0, text, b);
-    put_table(image, i, st, 2, text, c)
+    let c = put_said(st, ROWS, 0, 0, 0, 0, text, b);
+    put_table(image, i, st, ROW_TABLE, text, c)
 }
 
 pub(crate) fn put_listing(image: &[u8], i: Image, st: Style, text: &mut [u8], at: usize) -> usize
@@ -106,8 +126,8 @@ pub(crate) fn put_listing(image: &[u8], i: Image, st: Style, text: &mut [u8], at
         b: 0,
         c: 0,
     };
-    let b = put_line(image, i, st, 85, w, 0, text, a);
-    put_table(image, i, st, 89, text, b)
+    let b = put_line(image, i, st, CONDITION, w, 0, text, a);
+    put_table(image, i, st, STATE, text, b)
 }
 
 fn put_member(mask: u64, v: u16, text: &mut [u8], at: usize) -> usize
@@ -140,9 +160,9 @@ fn put_set(st: Style, n: u16, sets: &[u64], q: u16, text: &mut [u8], at: usize) 
     ensures { λ e. ⌜ Emitted (setText st n (now (sets .entry)) q) (page at (now (text .entry))) (page e (now (text .exit))) ⌝ }
 {
     let mask = sets[q as usize];
-    let a = put_said(st, 92, q, 0, 0, 0, text, at);
+    let a = put_said(st, SET, q, 0, 0, 0, text, at);
     let b = put_members(mask, n, text, a);
-    put_said(st, 93, 0, 0, 0, 0, text, b)
+    put_said(st, SET_END, 0, 0, 0, 0, text, b)
 }
 
 fn put_sets(st: Style, n: u16, sets: &[u64], states: u16, text: &mut [u8], at: usize) -> usize
@@ -172,7 +192,7 @@ pub(crate) fn put_accepted(
 {
     let variables = (i.states - i.variables) / 4;
     let states = (i.rows - i.states) / 2;
-    let a = put_said(st, 94, 0, 0, 0, 0, text, at);
+    let a = put_said(st, ACCEPTED, 0, 0, 0, 0, text, at);
     put_sets(st, variables, sets, states, text, a)
 }
 
@@ -181,7 +201,7 @@ pub fn put_refusal(y: Refusal, st: Style, text: &mut [u8], at: usize) -> usize
 {
     let n = y.number();
     let p = y.place();
-    put_said(st, 95 + n as u32, p, n, 0, 0, text, at)
+    put_said(st, REFUSED + n as u32, p, n, 0, 0, text, at)
 }
 
 fn row_place(n: u16, p: u16) -> u16
