@@ -1,12 +1,14 @@
 -- Text emitted piece after piece. Assumes nothing.
-use mathlib.Core.{Path._≡_, Path.refl, Path.sym, Path.ap, Path._∙_, Bool.Bool, Bool.true, Bool.false, List.List, List.[], List._∷_, List._++_, List.append-assoc}
+use mathlib.Core.{Path._≡_, Path.refl, Path.sym, Path.ap, Path.subst, Path._∙_, Bool.Bool, Bool.true, Bool.false, List.List, List.[], List._∷_, List._++_, List.append-assoc}
 use Prim.Native.Nat.{ℕ, suc, _+_, _-_, _/_, _%_, _<_, _≤_}
 use native.Mathlib.{Omega.arith, Numerals.add-one}
 use lib.{Dec.ltb, ListN.length, ListN.set, ListN.length-set, ListN.take, ListN.getD, Seq.take-suc}
 use borrow.Author.Tests.{ltb-true, lt-ltb, le-ltb}
 use Rattle.model.specs.Exports.{decimal}
+use Rattle.text.specs.Put.{Put}
 use Rattle.text.specs.Emit.{Page, page, emitByte, emit, Emitted, literal}
 use Rattle.text.proofs.Decimal.{decimal-digit, decimal-tenth, decimal-append}
+use Rattle.text.proofs.Put.{put-none, put-one, put-then}
 
 -- a text and another after it
 pub emit-append : (xs ys : List ℕ) (p : Page) → emit (xs ++ ys) p ≡ emit ys (emit xs p)
@@ -81,3 +83,19 @@ inside-of (x ∷ xs) p h = let i = byte-inside x p h in inside-of xs (emitByte x
 
 pub emit-inside : {xs : List ℕ} {p q : Page} → Emitted xs p q → p .«end» ≤ length (p .text) → q .«end» ≤ length (q .text)
 emit-inside {xs} {p} e h = rw (e .is) (inside-of xs p h)
+
+-- with room for all of it, a text is put whole
+put-whole : (xs : List ℕ) (at : ℕ) (t : List ℕ) → at + length xs ≤ length t
+    → Put t at xs (emit xs (page at t) .«end») (emit xs (page at t) .text)
+unfolding emit
+put-whole [] at t h = put-none t at
+put-whole (x ∷ xs) at t h =
+    let i : at < length t = omega arith in
+    let e = by-room t at x true (lt-ltb at (length t) i) in
+    let rest = put-whole xs (at + 1) (set t at x) (simp length-set (omega arith)) in
+    subst (λ (p : Page). Put t at (x ∷ xs) (emit xs p .«end») (emit xs p .text)) (sym e)
+    (put-then (put-one t at x i) (omega arith) rest)
+
+pub emit-whole : {xs : List ℕ} {at : ℕ} {t : List ℕ} {q : Page} → Emitted xs (page at t) q → at + length xs ≤ length t
+    → Put t at xs (q .«end») (q .text)
+emit-whole {xs} {at} {t} e h = rw (e .is) (put-whole xs at t h)
