@@ -58,7 +58,10 @@ pub(crate) fn refused(y: Refusal) {
     let n = y.number();
     text(b"refused, ");
     unsigned(n as u32);
-    place(n);
+    match y {
+        Refusal::NoCondition(_) => text(b" at the condition, place "),
+        _ => place(n),
+    }
     unsigned(y.place() as u32);
     text(b"\n");
 }
