@@ -20,7 +20,7 @@ use Rattle.image.proofs.Laid.{laid, variables-count, states-count}
 use Rattle.demands.proofs.Greatest.{Leads, reached-all, reached-in, at-rest, one-largest}
 use Rattle.demands.proofs.Solved.{sets-length, sets-largest}
 use Rattle.demands.proofs.Reaching.{reached-sound, reached-found}
-use Rattle.sets.specs.declared.Went.{Went}
+use Rattle.sets.specs.declared.flow.Went.{Went}
 use Rattle.sets.specs.Flow.{flow, Walked, Ready}
 use Rattle.sets.specs.States.{setAt, Beginning, Above, Given, Lowest, Marked, Settled, Judged, EachState, Found}
 use Rattle.sets.proofs.Entries.{parameters-in}

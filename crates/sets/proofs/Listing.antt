@@ -16,7 +16,7 @@ use Rattle.model.proofs.Rows.{Named, Row, Formed, fieldsFor, lined, is-kind}
 use Rattle.model.proofs.Decode.{listAt-none, listAt-step}
 use Rattle.model.proofs.Masks.{sub-refl, sub-trans, meet-left, meet-right}
 use Rattle.masks.specs.Masks.{branchesAt, armsAt}
-use Rattle.sets.specs.declared.Went.{Went}
+use Rattle.sets.specs.declared.flow.Went.{Went}
 use Rattle.sets.specs.Flow.{Flow, flow, flowBranches, flowArms, Walked, maskAt, Ready, ReadyList}
 use Rattle.sets.proofs.Tests.{meet-assoc, meet-sub, sub-meets}
 use Rattle.sets.proofs.Rest.{went, sets-after, Rest, Splits, rest-all, rest-on, rest-none}

@@ -13,7 +13,7 @@ use Rattle.model.specs.Decode.{growAction, actionAt, conditionAt, offersAt, get
 use Rattle.model.specs.Binding.{useOfExp}
 use Rattle.model.specs.Sets.{ends, endsAct, fine, fineAct, jumps, jumpsAct}
 use Rattle.model.proofs.Masks.{and-not}
-use Rattle.sets.specs.declared.Went.{Went}
+use Rattle.sets.specs.declared.flow.Went.{Went}
 use Rattle.sets.specs.Flow.{maskAt, stayed, Plain}
 use Rattle.sets.proofs.Tests.{inside-all}
 use Rattle.sets.proofs.Rows.{named-list, Base, action-row, action-is, null-is, use-condition, use-gets, def-gets, def-ofTypes, def-items, use-offers, def-offers, in-uses, in-defs, some-uses, some-defs}

@@ -13,7 +13,7 @@ use Rattle.model.proofs.Masks.{sub-refl, sub-trans, meet-left, meet-right}
 use Rattle.image.proofs.Laid.{states-count}
 use Rattle.demands.proofs.Targets.{jumps-away}
 use Rattle.demands.proofs.Greatest.{relax-above}
-use Rattle.sets.specs.declared.Went.{Went}
+use Rattle.sets.specs.declared.flow.Went.{Went}
 use Rattle.sets.specs.Flow.{flow, Moved, Walked, Ready}
 use Rattle.sets.specs.States.{setAt, Above, Given}
 use Rattle.sets.proofs.Leading.{state-kind}

@@ -6,7 +6,7 @@ use lib.{Bits.bitOr, Bits.or-add-and, ListN.length, ListN.getD, ListN.set, Seq.g
 use Rattle.model.specs.Masks.{digit, bit, meet, join}
 use Rattle.model.specs.Largest.{Sub, sum}
 use Rattle.model.proofs.Masks.{digit-join, digit-bit-here, meet-le, meet-left, sub-trans}
-use Rattle.sets.specs.declared.Went.{Went}
+use Rattle.sets.specs.declared.flow.Went.{Went}
 use Rattle.sets.specs.Flow.{Flow, Moved, Walked, Sets}
 use Rattle.sets.proofs.Tests.{meet-assoc, meet-sub, and-assoc, and-true}
 

@@ -19,7 +19,7 @@ use Rattle.model.proofs.Rows.{Named}
 use Rattle.model.proofs.Masks.{bit-shift}
 use Rattle.image.proofs.Laid.{laid, states-count}
 use Rattle.masks.specs.Masks.{branchesAt, armsAt}
-use Rattle.sets.specs.declared.Went.{Went}
+use Rattle.sets.specs.declared.flow.Went.{Went}
 use Rattle.sets.specs.Flow.{Flow, flow, flowBranches, flowArms, Walked, Plain, maskAt, stayed, Sets, Ready, ReadyAs, Single, Loop, ReadyList, Jump, PlainRow}
 use Rattle.sets.proofs.Tests.{meet-sub, join-none, and-assoc, inside-none}
 use Rattle.sets.proofs.Rest.{went, not-moved, moved-set, sets-after, Rest, Splits, rest-all, rest-on, rest-last}

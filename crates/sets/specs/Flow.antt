@@ -13,7 +13,7 @@ use Rattle.model.specs.Sets.{ends, endsBranches, endsArms, fine, fineBranches, 
 use Rattle.model.specs.Largest.{Sub, sum}
 use Rattle.image.specs.Located.{Formed}
 use Rattle.masks.specs.Masks.{useAt, defAt}
-use Rattle.sets.specs.declared.Went.{Went}
+use Rattle.sets.specs.declared.flow.Went.{Went}
 
 -- Figure 7's sets: where the tree ends, at the jumps to each state; and whether no error is raised
 pub record Flow : Type 0 where

@@ -1,8 +1,8 @@
--- `within` meets its contract. Assumes nothing.
+-- `flow::within` meets its contract. Assumes nothing.
 use mathlib.Core.Path.{refl}
 use Rattle.model.specs.Masks.{meet, inside}
-use Rattle.sets.proofs.within.Statement.{statement}
-use Rattle.sets.proofs.within.Tie as tie
+use Rattle.sets.proofs.flow.within.Statement.{statement}
+use Rattle.sets.proofs.flow.within.Tie as tie
 
 returns : tie.Need-returns
 unfolding inside meet

@@ -1,4 +1,4 @@
--- `jump` meets its contract. Assumes nothing.
+-- `flow::jump` meets its contract. Assumes nothing.
 use mathlib.Core.Path.{refl}
 use native.Mathlib.Omega.{arith}
 use borrow.Author.Needs.{needs}
@@ -6,8 +6,8 @@ use Rattle.model.specs.Masks.{meet}
 use Rattle.model.specs.Rows.{action}
 use Rattle.sets.proofs.Rows.{row-of-kind}
 use Rattle.sets.proofs.Steps.{jump-inside, jump-small, still-jump, do-jump}
-use Rattle.sets.proofs.jump.Statement.{statement}
-use Rattle.sets.proofs.jump.Tie as tie
+use Rattle.sets.proofs.flow.jump.Statement.{statement}
+use Rattle.sets.proofs.flow.jump.Tie as tie
 
 fields-requires : tie.Need-fields-requires
 fields-requires c κs = row-of-kind action _ (c .before .before .pre .formed) (omega arith) (c .before .before .pre .kind)

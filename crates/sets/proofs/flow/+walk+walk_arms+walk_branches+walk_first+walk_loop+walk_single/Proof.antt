@@ -13,30 +13,30 @@ use Rattle.image.proofs.fields.Reads as fields-reads
 use Rattle.sets.proofs.Rows.{row-of-kind}
 use Rattle.sets.proofs.Steps.{do-plain, Walking, walking-all, first-ready, first-low, second-low, walking-on, walking-last, loop-masks, body-ready, body-low, do-loop, as-jump, as-loop, as-plain, branches-ready, branches-low, do-select, arms-ready, arms-low, case-masks, do-case}
 use Rattle.sets.proofs.Listing.{Listing, branching, here-kind, branches-all, branch-ready, branch-low, branch-less, branches-on, branches-last, arming, arms-all, arm-masks, arm-ready, arm-low, arm-less, arms-on, arms-last}
-use Rattle.sets.proofs.walk.Reads as walk
-use Rattle.sets.proofs.walk.Kinds as walk-kinds
-use Rattle.sets.proofs.+walk+walk_arms+walk_branches+walk_first+walk_loop+walk_single.Lts-walk as walk-lts
-use Rattle.sets.proofs.walk_arms.Reads as walk-arms
-use Rattle.sets.proofs.walk_arms.Kinds as walk-arms-kinds
-use Rattle.sets.proofs.+walk+walk_arms+walk_branches+walk_first+walk_loop+walk_single.Lts-walk_arms as walk-arms-lts
-use Rattle.sets.proofs.walk_branches.Reads as walk-branches
-use Rattle.sets.proofs.walk_branches.Kinds as walk-branches-kinds
-use Rattle.sets.proofs.+walk+walk_arms+walk_branches+walk_first+walk_loop+walk_single.Lts-walk_branches as walk-branches-lts
-use Rattle.sets.proofs.walk_first.Reads as walk-first
-use Rattle.sets.proofs.walk_first.Kinds as walk-first-kinds
-use Rattle.sets.proofs.+walk+walk_arms+walk_branches+walk_first+walk_loop+walk_single.Lts-walk_first as walk-first-lts
-use Rattle.sets.proofs.walk_loop.Reads as walk-loop
-use Rattle.sets.proofs.walk_loop.Kinds as walk-loop-kinds
-use Rattle.sets.proofs.+walk+walk_arms+walk_branches+walk_first+walk_loop+walk_single.Lts-walk_loop as walk-loop-lts
-use Rattle.sets.proofs.walk_single.Reads as walk-single
-use Rattle.sets.proofs.walk_single.Kinds as walk-single-kinds
-use Rattle.sets.proofs.+walk+walk_arms+walk_branches+walk_first+walk_loop+walk_single.Lts-walk_single as walk-single-lts
-use Rattle.sets.proofs.jump.Reads as jump-reads
-use Rattle.sets.proofs.mask_at.Reads as mask-at-reads
-use Rattle.sets.proofs.plain.Reads as plain-reads
-use Rattle.sets.proofs.within.Reads as within-reads
-use Rattle.sets.proofs.+walk+walk_arms+walk_branches+walk_first+walk_loop+walk_single.{statement}
-use Rattle.sets.proofs.+walk+walk_arms+walk_branches+walk_first+walk_loop+walk_single.Tie.{close}
+use Rattle.sets.proofs.flow.walk.Reads as walk
+use Rattle.sets.proofs.flow.walk.Kinds as walk-kinds
+use Rattle.sets.proofs.flow.+walk+walk_arms+walk_branches+walk_first+walk_loop+walk_single.Lts-walk as walk-lts
+use Rattle.sets.proofs.flow.walk_arms.Reads as walk-arms
+use Rattle.sets.proofs.flow.walk_arms.Kinds as walk-arms-kinds
+use Rattle.sets.proofs.flow.+walk+walk_arms+walk_branches+walk_first+walk_loop+walk_single.Lts-walk_arms as walk-arms-lts
+use Rattle.sets.proofs.flow.walk_branches.Reads as walk-branches
+use Rattle.sets.proofs.flow.walk_branches.Kinds as walk-branches-kinds
+use Rattle.sets.proofs.flow.+walk+walk_arms+walk_branches+walk_first+walk_loop+walk_single.Lts-walk_branches as walk-branches-lts
+use Rattle.sets.proofs.flow.walk_first.Reads as walk-first
+use Rattle.sets.proofs.flow.walk_first.Kinds as walk-first-kinds
+use Rattle.sets.proofs.flow.+walk+walk_arms+walk_branches+walk_first+walk_loop+walk_single.Lts-walk_first as walk-first-lts
+use Rattle.sets.proofs.flow.walk_loop.Reads as walk-loop
+use Rattle.sets.proofs.flow.walk_loop.Kinds as walk-loop-kinds
+use Rattle.sets.proofs.flow.+walk+walk_arms+walk_branches+walk_first+walk_loop+walk_single.Lts-walk_loop as walk-loop-lts
+use Rattle.sets.proofs.flow.walk_single.Reads as walk-single
+use Rattle.sets.proofs.flow.walk_single.Kinds as walk-single-kinds
+use Rattle.sets.proofs.flow.+walk+walk_arms+walk_branches+walk_first+walk_loop+walk_single.Lts-walk_single as walk-single-lts
+use Rattle.sets.proofs.flow.jump.Reads as jump-reads
+use Rattle.sets.proofs.flow.mask_at.Reads as mask-at-reads
+use Rattle.sets.proofs.flow.plain.Reads as plain-reads
+use Rattle.sets.proofs.flow.within.Reads as within-reads
+use Rattle.sets.proofs.flow.+walk+walk_arms+walk_branches+walk_first+walk_loop+walk_single.{statement}
+use Rattle.sets.proofs.flow.+walk+walk_arms+walk_branches+walk_first+walk_loop+walk_single.Tie.{close}
 
 abbrev μ-walk : Measures 4 walk-kinds.ps ℕ
 μ-walk κs a = 4 * a .1 .1 .1 .1 .0 + 2

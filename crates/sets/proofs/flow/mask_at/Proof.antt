@@ -1,10 +1,10 @@
--- `mask_at` meets its contract. Assumes nothing.
+-- `flow::mask_at` meets its contract. Assumes nothing.
 use mathlib.Core.Path.{sym}
 use mathlib.Core.Logic.{⊎-elim}
 use borrow.Author.Needs.{needs}
 use Rattle.sets.proofs.Forms.{mask-none, mask-some}
-use Rattle.sets.proofs.mask_at.Statement.{statement}
-use Rattle.sets.proofs.mask_at.Tie as tie
+use Rattle.sets.proofs.flow.mask_at.Statement.{statement}
+use Rattle.sets.proofs.flow.mask_at.Tie as tie
 
 returns : tie.Need-returns
 returns c = sym (mask-none _ _ (c .if1 .taken))

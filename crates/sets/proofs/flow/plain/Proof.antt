@@ -1,11 +1,11 @@
--- `plain` meets its contract: a law of Plainly for each code. Assumes nothing.
+-- `flow::plain` meets its contract: a law of Plainly for each code. Assumes nothing.
 use native.Mathlib.Omega.{arith}
 use borrow.Author.Needs.{needs}
 use Rattle.model.specs.Rows.{action}
 use Rattle.sets.proofs.Rows.{base-of, row-of-kind}
 use Rattle.sets.proofs.Plainly.{assign-in, choose-in, reset-in, communicate-in, do-assign, do-choose, do-reset, do-communicate, do-null}
-use Rattle.sets.proofs.plain.Statement.{statement}
-use Rattle.sets.proofs.plain.Tie as tie
+use Rattle.sets.proofs.flow.plain.Statement.{statement}
+use Rattle.sets.proofs.flow.plain.Tie as tie
 
 fields-requires : tie.Need-fields-requires
 fields-requires c κs = row-of-kind action _ (c .before .before .before .pre .lent .formed) (omega arith) (c .before .before .before .pre .kind)
