@@ -1,4 +1,3 @@
-pub mod Gathering
 pub mod Readings
 pub mod NextItem
 pub mod Vectors

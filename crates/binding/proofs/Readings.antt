@@ -44,9 +44,3 @@ module _ {s : List ℕ} {i : Image} (h : Rooted s i) where
       → maskIn defs n ≡ defAt (tablesOf s) n
   read-def {defs} e n p =
       read (defAt (tablesOf s)) defs (rowCount i) n (omega (arith, e .size, few)) (def-none (tablesOf s) ok short) (e .each) p
-
--- the masks that were filled in are those that the rules ask for
-pub masked : {s : List ℕ} {i : Image} {uses defs leads : List ℕ} → Rooted s i → Filled (tablesOf s) (rowCount i) uses defs leads
-    → Masked s i uses defs
-masked h f =
-    record { rooted = h; useRow = f .useRow; defRow = f .defRow; usesSize = f .usesSize; defsSize = f .defsSize }

@@ -4,16 +4,15 @@ ghost use mathlib.Core.Path.{_≡_};
 ghost use Rattle.model.specs.Image.{tablesOf};
 ghost use Rattle.model.specs.Rows.{kindOf, shapeOf};
 ghost use Rattle.model.specs.Decode.{offersAt};
-ghost use Rattle.model.specs.Binding.{distinct, parametersOf, bound};
-ghost use Rattle.image.specs.Located.{Rooted};
+ghost use Rattle.model.specs.Binding.{distinct, bound};
 ghost use Rattle.binding.specs.Bound.{bindingVerdict, Masked, bitsAt, boundOffers, Item, Vector, Offers, Ruled, Rule, nextIn};
 use image::fields;
-use image::parameter;
+use image::row_count;
 use masks::apart;
 use masks::bit;
 use masks::inside;
 use masks::mask;
-use masks::row_count;
+use masks::parameters;
 use model::Fields;
 use model::Image;
 use model::Refusal;
@@ -22,20 +21,6 @@ use model::Verdict;
 
 // No row.
 const NONE: u16 = 0xFFFF;
-
-// The parameters' mask, from the last variable down, as its definition goes.
-fn parameters(image: &[u8], i: Image) -> u64
-    requires { ⌜ Rooted (now image) i ⌝ }
-    ensures { λ m. ⌜ m ≡ parametersOf (tablesOf (now (image .entry)) .variables) ⌝ }
-{
-    let mut m: u64 = 0;
-    let mut v = (i.states - i.variables) / 4;
-    while 0 < v {
-        v -= 1;
-        m = parameter(image, i, v) as u64 + 2 * m;
-    }
-    m
-}
 
 // The row after an item's: only code 46 has it in field b.
 fn next_item(w: Fields) -> u16
@@ -122,6 +107,6 @@ pub fn binding_verdict(image: &[u8], i: Image, uses: &[u64], defs: &[u64]) -> Ve
     requires { ⌜ Masked (now image) i (now uses) (now defs) ⌝ }
     ensures { λ v. ⌜ v ≡ bindingVerdict (tablesOf (now (image .entry))) ⌝ }
 {
-    let n = row_count(image, i);
+    let n = row_count(image, i) as usize;
     rows_verdict(image, i, &uses[..n], &defs[..n])
 }

@@ -14,18 +14,7 @@ use actions::blocked_at;
 use model::Move;
 use model::Outcome;
 use model::Stepped;
-
-// Copies a store.
-pub fn copy(to: &mut [i32], from: &[i32])
-    requires { ⌜ length (now to) ≡ length (now from) ⌝ }
-    ensures { λ _. ⌜ now (to .exit) ≡ now (from .entry) ⌝ }
-{
-    let mut i = 0;
-    while i < from.len() {
-        to[i] = from[i];
-        i += 1;
-    }
-}
+use words::copy;
 
 // Word k of a label: its gate (-1 where nothing was said), the number of its values, the values, then zeros.
 fn label_word(values: &[i32], run: Run, k: usize) -> i32

@@ -6,9 +6,9 @@ use lib.{Dec.eqb, Dec.leb, Dec.ltb, ListN.length, ListN.getD, ListN.drop, Seq.dr
 use borrow.Author.Tests.{lt-ltb, le-ltb, le-leb, lt-leb, eq-eqb, ne-eqb, leb-true, eqb-true, not-true, not-false}
 use Rattle.model.specs.declared.{Image.Image, Verdict.Verdict, Verdict.the-variants.Accepted, Verdict.the-variants.Refused, Refusal.Refusal, Refusal.the-variants.ImageLength, Refusal.the-variants.MarkOrLength, Refusal.the-variants.Starts, Refusal.the-variants.Entries}
 use Rattle.model.specs.Answers.{after, unless}
-use Rattle.model.specs.Image.{Entry, lengthFits, marked, trailerOf, rowsEnd, tableFits, startsFit, othersFit, sizesFit, entriesFit, entriesRight, tablesOf, typeCount, variableCount, sizeOf, entryOf}
+use Rattle.model.specs.Image.{Entry, lengthFits, marked, trailerOf, rowsEnd, tableFits, startsFit, othersFit, sizesFit, entriesFit, entriesRight, tablesOf, sizeOf, entryOf}
 use Rattle.model.specs.Answers.{variable}
-use Rattle.image.proofs.Laid.{laid, types-count, variables-count}
+use Rattle.image.proofs.Laid.{laid, types-count}
 use Rattle.model.proofs.Rows.{both-true}
 use Rattle.image.specs.Located.{Located, TypeOf, headerVerdict}
 
@@ -94,70 +94,64 @@ pub chain-last : (a b c : Bool) → a ≡ true → c ≡ b → c ≡ (a && b)
 chain-last a b c e f = rw e f
 
 -- the loop over the types that are neither bool nor int: what is left of them decides
-pub record Others (s : List ℕ) (i : Image) (t : ℕ) : Type 0 where
+pub record Others (s : List ℕ) (t : ℕ) : Type 0 where
   pub low : 2 ≤ t
-  pub high : t ≤ typeCount i
+  pub high : t ≤ length (tablesOf s .sizes)
   pub same : othersFit (drop t (tablesOf s .sizes)) ≡ othersFit (drop 2 (tablesOf s .sizes))
 
-module _ {s : List ℕ} {i : Image} (l : Located s i) where
-  pub types-are : typeCount i ≡ i .variables / 2
-  types-are = let d = laid l in omega (arith, d .types)
+pub others-begin : {s : List ℕ} {i : Image} → Located s i → Others s 2
+others-begin l = record { low = omega arith; high = omega (arith, types-count l, laid l .typesLeast); same = refl }
 
-  pub others-begin : Others s i 2
-  others-begin = record { low = omega arith; high = laid l .typesLeast; same = refl }
-
-  others-here : {t : ℕ} → Others s i t → t < i .variables / 2
+module _ {s : List ℕ} where
+  others-here : {t : ℕ} → Others s t → t < length (tablesOf s .sizes)
       → othersFit (drop 2 (tablesOf s .sizes)) ≡ (leb 1 (sizeOf (tablesOf s) t) && leb (sizeOf (tablesOf s) t) 4096 && othersFit (drop (t + 1) (tablesOf s .sizes)))
-  others-here {t} o h = sym (o .same) ∙ others-turn (tablesOf s .sizes) t (omega (arith, types-count l, types-are))
+  others-here {t} o h = sym (o .same) ∙ others-turn (tablesOf s .sizes) t h
 
-  pub others-low : {t k : ℕ} → Others s i t → t < i .variables / 2 → k ≡ sizeOf (tablesOf s) t → k < 1 → false ≡ othersFit (drop 2 (tablesOf s .sizes))
+  pub others-low : {t k : ℕ} → Others s t → t < length (tablesOf s .sizes) → k ≡ sizeOf (tablesOf s) t → k < 1 → false ≡ othersFit (drop 2 (tablesOf s .sizes))
   others-low {t} {k} o h e f = rw (others-here o h, ← e, lt-leb 1 k f)
 
-  pub others-high : {t k : ℕ} → Others s i t → t < i .variables / 2 → k ≡ sizeOf (tablesOf s) t → 1 ≤ k → 4096 < k
+  pub others-high : {t k : ℕ} → Others s t → t < length (tablesOf s .sizes) → k ≡ sizeOf (tablesOf s) t → 1 ≤ k → 4096 < k
       → false ≡ othersFit (drop 2 (tablesOf s .sizes))
   others-high {t} {k} o h e f g = rw (others-here o h, ← e, le-leb 1 k f, lt-leb k 4096 g)
 
-  pub others-next : {t k : ℕ} → Others s i t → t < i .variables / 2 → k ≡ sizeOf (tablesOf s) t → 1 ≤ k → k ≤ 4096 → Others s i (t + 1)
+  pub others-next : {t k : ℕ} → Others s t → t < length (tablesOf s .sizes) → k ≡ sizeOf (tablesOf s) t → 1 ≤ k → k ≤ 4096 → Others s (t + 1)
   others-next {t} {k} o h e f g =
-      record { low = omega (arith, o .low); high = omega (arith, types-are); same = sym (rw (others-here o h, ← e, le-leb 1 k f, le-leb k 4096 g)) }
+      record { low = omega (arith, o .low); high = omega arith; same = sym (rw (others-here o h, ← e, le-leb 1 k f, le-leb k 4096 g)) }
 
-  pub others-done : {t : ℕ} → Others s i t → i .variables / 2 ≤ t → true ≡ othersFit (drop 2 (tablesOf s .sizes))
-  others-done {t} o h = sym (others-end (tablesOf s .sizes) t (omega (arith, types-count l, types-are))) ∙ o .same
+  pub others-done : {t : ℕ} → Others s t → length (tablesOf s .sizes) ≤ t → true ≡ othersFit (drop 2 (tablesOf s .sizes))
+  others-done {t} o h = sym (others-end (tablesOf s .sizes) t h) ∙ o .same
 
 -- the loop over the variables
-pub record Entered (s : List ℕ) (i : Image) (v : ℕ) : Type 0 where
-  pub high : v ≤ variableCount i
+pub record Entered (s : List ℕ) (v : ℕ) : Type 0 where
+  pub high : v ≤ length (tablesOf s .variables)
   pub same : entriesFit (length (tablesOf s .sizes)) (drop v (tablesOf s .variables)) ≡ entriesFit (length (tablesOf s .sizes)) (tablesOf s .variables)
 
-module _ {s : List ℕ} {i : Image} (l : Located s i) where
-  pub entered-begin : Entered s i 0
+module _ {s : List ℕ} where
+  pub entered-begin : Entered s 0
   entered-begin = record { high = omega arith; same = refl }
 
-  entered-here : {v : ℕ} → Entered s i v → v < variableCount i
+  entered-here : {v : ℕ} → Entered s v → v < length (tablesOf s .variables)
       → entriesFit (length (tablesOf s .sizes)) (tablesOf s .variables)
-      ≡ (ltb (entryOf (tablesOf s) (variable v) .type) (i .variables / 2)
+      ≡ (ltb (entryOf (tablesOf s) (variable v) .type) (length (tablesOf s .sizes))
       && (leb (entryOf (tablesOf s) (variable v) .parameter) 1 && entriesFit (length (tablesOf s .sizes)) (drop (v + 1) (tablesOf s .variables))))
   entered-here {v} o h =
-      let n : length (tablesOf s .sizes) ≡ i .variables / 2 = types-count l ∙ types-are l in
-      sym (o .same) ∙ entries-turn (length (tablesOf s .sizes)) (tablesOf s .variables) v (record { type = 0; parameter = 0 }) (omega (arith, variables-count l))
-      ∙ ap (λ (k : ℕ). ltb (entryOf (tablesOf s) (variable v) .type) k
-      && (leb (entryOf (tablesOf s) (variable v) .parameter) 1 && entriesFit (length (tablesOf s .sizes)) (drop (v + 1) (tablesOf s .variables)))) n
+      sym (o .same) ∙ entries-turn (length (tablesOf s .sizes)) (tablesOf s .variables) v (record { type = 0; parameter = 0 }) h
 
-  pub entered-type : {v t : ℕ} → Entered s i v → v < variableCount i → t ≡ entryOf (tablesOf s) (variable v) .type → i .variables / 2 ≤ t
+  pub entered-type : {v t : ℕ} → Entered s v → v < length (tablesOf s .variables) → t ≡ entryOf (tablesOf s) (variable v) .type → length (tablesOf s .sizes) ≤ t
       → false ≡ entriesFit (length (tablesOf s .sizes)) (tablesOf s .variables)
-  entered-type {v} {t} o h e f = rw (entered-here o h, ← e, le-ltb t (i .variables / 2) f)
+  entered-type {v} {t} o h e f = rw (entered-here o h, ← e, le-ltb t (length (tablesOf s .sizes)) f)
 
-  pub entered-parameter : {v t p : ℕ} → Entered s i v → v < variableCount i → t ≡ entryOf (tablesOf s) (variable v) .type → t < i .variables / 2
+  pub entered-parameter : {v t p : ℕ} → Entered s v → v < length (tablesOf s .variables) → t ≡ entryOf (tablesOf s) (variable v) .type → t < length (tablesOf s .sizes)
       → p ≡ entryOf (tablesOf s) (variable v) .parameter → 1 < p → false ≡ entriesFit (length (tablesOf s .sizes)) (tablesOf s .variables)
-  entered-parameter {v} {t} {p} o h e f g k = rw (entered-here o h, ← e, ← g, lt-ltb t (i .variables / 2) f, lt-leb p 1 k)
+  entered-parameter {v} {t} {p} o h e f g k = rw (entered-here o h, ← e, ← g, lt-ltb t (length (tablesOf s .sizes)) f, lt-leb p 1 k)
 
-  pub entered-next : {v t p : ℕ} → Entered s i v → v < variableCount i → t ≡ entryOf (tablesOf s) (variable v) .type → t < i .variables / 2
-      → p ≡ entryOf (tablesOf s) (variable v) .parameter → p ≤ 1 → Entered s i (v + 1)
+  pub entered-next : {v t p : ℕ} → Entered s v → v < length (tablesOf s .variables) → t ≡ entryOf (tablesOf s) (variable v) .type → t < length (tablesOf s .sizes)
+      → p ≡ entryOf (tablesOf s) (variable v) .parameter → p ≤ 1 → Entered s (v + 1)
   entered-next {v} {t} {p} o h e f g k =
-      record { high = omega arith; same = sym (rw (entered-here o h, ← e, ← g, lt-ltb t (i .variables / 2) f, le-leb p 1 k)) }
+      record { high = omega arith; same = sym (rw (entered-here o h, ← e, ← g, lt-ltb t (length (tablesOf s .sizes)) f, le-leb p 1 k)) }
 
-  pub entered-done : {v : ℕ} → Entered s i v → variableCount i ≤ v → true ≡ entriesFit (length (tablesOf s .sizes)) (tablesOf s .variables)
-  entered-done {v} o h = sym (entries-end (length (tablesOf s .sizes)) (tablesOf s .variables) v (omega (arith, variables-count l))) ∙ o .same
+  pub entered-done : {v : ℕ} → Entered s v → length (tablesOf s .variables) ≤ v → true ≡ entriesFit (length (tablesOf s .sizes)) (tablesOf s .variables)
+  entered-done {v} o h = sym (entries-end (length (tablesOf s .sizes)) (tablesOf s .variables) v h) ∙ o .same
 
 pub sizes-turn : (l : List ℕ) → 2 ≤ length l → sizesFit l ≡ (eqb (getD l 0 0) 2 && (eqb (getD l 1 0) 0 && othersFit (drop 2 l)))
 unfolding sizesFit

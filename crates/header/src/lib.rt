@@ -8,6 +8,8 @@ ghost use Rattle.image.specs.Located.{Located, headerVerdict};
 use image::parameter;
 use image::size;
 use image::trailer;
+use image::type_count;
+use image::variable_count;
 use image::variable_type;
 use model::Image;
 use model::Refusal;
@@ -90,7 +92,7 @@ fn others_fit(image: &[u8], i: Image) -> bool
     requires { ⌜ Located (now image) i ⌝ }
     ensures { λ r. ⌜ r ≡ othersFit (drop 2 (tablesOf (now (image .entry)) .sizes)) ⌝ }
 {
-    let n = i.variables / 2;
+    let n = type_count(image, i);
     let mut t: u16 = 2;
     while t < n {
         let k = size(image, i, t);
@@ -122,8 +124,8 @@ fn entries_fit(image: &[u8], i: Image) -> bool
     requires { ⌜ Located (now image) i ⌝ }
     ensures { λ r. ⌜ r ≡ entriesFit (length (tablesOf (now (image .entry)) .sizes)) (tablesOf (now (image .entry)) .variables) ⌝ }
 {
-    let types = i.variables / 2;
-    let n = (i.states - i.variables) / 4;
+    let types = type_count(image, i);
+    let n = variable_count(image, i);
     let mut v: u16 = 0;
     while v < n {
         if types <= variable_type(image, i, v) {

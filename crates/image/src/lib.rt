@@ -26,6 +26,35 @@ pub fn trailer(image: &[u8]) -> Image
     }
 }
 
+// The tables' numbers of entries: each ends where the next starts, the rows where the trailer starts.
+pub fn type_count(image: &[u8], i: Image) -> u16
+    requires { ⌜ Located (now image) i ⌝ }
+    ensures { λ n. ⌜ n ≡ length (tablesOf (now (image .entry)) .sizes) ⌝ }
+{
+    (i.variables - i.types) / 2
+}
+
+pub fn variable_count(image: &[u8], i: Image) -> u16
+    requires { ⌜ Located (now image) i ⌝ }
+    ensures { λ n. ⌜ n ≡ length (tablesOf (now (image .entry)) .variables) ⌝ }
+{
+    (i.states - i.variables) / 4
+}
+
+pub fn state_count(image: &[u8], i: Image) -> u16
+    requires { ⌜ Located (now image) i ⌝ }
+    ensures { λ n. ⌜ n ≡ length (tablesOf (now (image .entry)) .states) ⌝ }
+{
+    (i.rows - i.states) / 2
+}
+
+pub fn row_count(image: &[u8], i: Image) -> u16
+    requires { ⌜ Located (now image) i ⌝ }
+    ensures { λ n. ⌜ n ≡ length (tablesOf (now (image .entry)) .rows) ⌝ }
+{
+    (i.length - 16 - i.rows) / 8
+}
+
 // A type's number of values.
 pub fn size(image: &[u8], i: Image, t: u16) -> u16
     requires { ⌜ TypeOf (now image) i t ⌝ }

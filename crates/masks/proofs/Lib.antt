@@ -2,3 +2,4 @@ pub mod ByCode
 pub mod ByKind
 pub mod ByRow
 pub mod Filling
+pub mod ParameterMask

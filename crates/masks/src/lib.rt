@@ -4,10 +4,14 @@ ghost use Prim.Native.Nat.{_<_};
 ghost use Rattle.model.specs.Masks.{bit, join, without, inside, apart};
 ghost use Rattle.model.specs.Image.{tablesOf, rowCount};
 ghost use Rattle.model.specs.Rows.{shapeOf};
-ghost use Rattle.image.specs.Located.{Located};
+ghost use Rattle.model.specs.Binding.{parametersOf};
+ghost use Rattle.image.specs.Located.{Formed};
 ghost use Rattle.masks.specs.Masks.{Filled};
 ghost use Rattle.masks.specs.Rows.{maskIn, masksBy, Small, Lent, Fit};
 use image::fields;
+use image::parameter;
+use image::row_count;
+use image::variable_count;
 use model::Fields;
 use model::Image;
 
@@ -99,13 +103,18 @@ fn masks_of(w: Fields, uses: &[u64], defs: &[u64], leads: &[u64]) -> Masks
     }
 }
 
-// The number of rows: they end where the trailer starts.
-pub fn row_count(image: &[u8], i: Image) -> usize
-    requires { ⌜ Located (now image) i ⌝ }
-    ensures { λ n. ⌜ n ≡ rowCount i ⌝ }
+// The mask of the parameters, from the last variable down, as its definition goes.
+pub fn parameters(image: &[u8], i: Image) -> u64
+    requires { ⌜ Formed (now image) i ⌝ }
+    ensures { λ m. ⌜ m ≡ parametersOf (tablesOf (now (image .entry)) .variables) ⌝ }
 {
-    let start = i.rows as usize;
-    (image.len() - 16 - start) / 8
+    let mut v = variable_count(image, i);
+    let mut m: u64 = 0;
+    while 0 < v {
+        v -= 1;
+        m = m * 2 + parameter(image, i, v) as u64;
+    }
+    m
 }
 
 // The masks of every row, lowest first, since rows name only lower rows.
@@ -130,6 +139,6 @@ pub fn fill(image: &[u8], i: Image, uses: &mut [u64], defs: &mut [u64], leads: &
     requires { ⌜ Lent (now image) i (now uses) (now defs) (now leads) ⌝ }
     ensures { λ r. ⌜ Filled (tablesOf (now (image .entry))) (rowCount i) (now (uses .exit)) (now (defs .exit)) (now (leads .exit)) ⌝ }
 {
-    let n = row_count(image, i);
+    let n = row_count(image, i) as usize;
     fill_rows(image, i, &mut uses[..n], &mut defs[..n], &mut leads[..n]);
 }

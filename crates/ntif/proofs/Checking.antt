@@ -5,17 +5,17 @@ use native.Mathlib.Omega.{arith}
 use lib.{Dec.leb, ListN.length, ListN.getD, ListN.take, ListN.drop, Seq.take-at}
 use borrow.Author.Tests.{leb-true}
 use Rattle.model.specs.declared.{Image.Image, Verdict.Verdict, Verdict.the-variants.Accepted, Verdict.the-variants.Refused, Refusal.Refusal, Refusal.the-variants.SetsShort}
-use Rattle.model.specs.Answers.{number, place, after, unless}
+use Rattle.model.specs.Answers.{after, unless}
 use Rattle.model.specs.Image.{Tables, tablesOf, trailerOf, stateCount}
 use Rattle.model.specs.Largest.{setsOf}
 use Rattle.model.specs.Bytes.{wordsOf, written}
-use Rattle.model.specs.Exports.{packVerdict, Exported, checkBytes}
+use Rattle.model.specs.Exports.{packRefusal, packVerdict, Exported, checkBytes}
 use Rattle.model.specs.Calls.{rulesVerdict, flowVerdict, checkVerdict, Checked, checkedAs, check}
 use Rattle.model.proofs.Order.{after-both, unless-true}
 use Rattle.image.specs.Located.{Rooted}
 use Rattle.image.proofs.Laid.{laid, states-count}
 use Rattle.demands.proofs.Solved.{sets-length}
-use Rattle.sets.proofs.Entries.{parameters-in}
+use Rattle.masks.proofs.ParameterMask.{parameters-in}
 use Rattle.sets.proofs.Leading.{leads-of}
 use Rattle.stages.specs.Judging.{Checks}
 use Rattle.stages.proofs.Stages.{rooted-of, trailer-there, accepted-tables, accepted-room, accepted-leaves}
@@ -31,9 +31,6 @@ module _ (s : List ℕ) (room : ℕ) {v : Verdict} (f : v ≡ checkVerdict s roo
 
   pub accepted-fits : length (tablesOf s .states) ≤ room
   accepted-fits = accepted-room s room (sym f ∙ e)
-
-  pub accepted-count : (i : Image) → i ≡ trailerOf s → (i .rows - i .states) / 2 ≡ length (tablesOf s .states)
-  accepted-count i t = sym (states-count (accepted-rooted i t .formed .located))
 
   pub accepted-most : length (tablesOf s .states) ≤ 64
   accepted-most =
@@ -66,8 +63,8 @@ checked-accepted s sets {v} {was} {masks} n g e c a =
     let l : length (setsOf (tablesOf s)) ≡ n = sets-long s (length sets) (g .verdict) e ∙ sym c in
     rw (← g .verdict, e, a, t, l)
 
-pub pack-refused : {v : Verdict} (y : Refusal) {n p : ℕ} → v ≡ Refused y → n ≡ number y → p ≡ place y → n + p * 65536 ≡ packVerdict v
-pack-refused y e f g = rw (e, f, g)
+pub pack-refused : {v : Verdict} (y : Refusal) {n : ℕ} → v ≡ Refused y → n ≡ packRefusal y → n ≡ packVerdict v
+pack-refused y e f = rw (e, f)
 
 -- check on bytes
 module _ (s sets : List ℕ) (bytes : (j : ℕ) → getD sets j 0 < 256) where

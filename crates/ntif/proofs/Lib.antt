@@ -1,5 +1,4 @@
 pub mod Checking
-pub mod Copied
 pub mod Kept
 pub mod Starting
 pub mod Stepped

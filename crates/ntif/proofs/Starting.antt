@@ -18,7 +18,7 @@ use Rattle.words.proofs.Words.{length-signedWords}
 use Rattle.image.proofs.Laid.{laid, variables-count}
 use Rattle.demands.proofs.Whole.{entry-of}
 use Rattle.starting.specs.Starting.{valuesVerdict, countsVerdict}
-use Rattle.starting.proofs.Clearing.{located-of}
+use Rattle.image.proofs.Accepted.{accepted-located}
 use Rattle.starting.proofs.Judging.{start-is}
 use Rattle.ntif.proofs.Kept.{written-kept}
 
@@ -34,7 +34,7 @@ parameters-most (e ∷ es) h = omega (arith, h 0 (omega arith), parameters-most 
 -- an image free of 1 to 9
 module _ (s : List ℕ) (e : imageVerdict s ≡ Accepted) where
   few-variables : length (tablesOf s .variables) ≤ 64
-  few-variables = let l = located-of s e in omega (arith, laid l .variablesMost, variables-count l)
+  few-variables = let l = accepted-located refl e in omega (arith, laid l .variablesMost, variables-count l)
 
   few-parameters : parameterCount (tablesOf s .variables) ≤ 64
   few-parameters =

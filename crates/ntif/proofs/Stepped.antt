@@ -20,7 +20,7 @@ use Rattle.image.proofs.Laid.{laid, variables-count, states-count}
 use Rattle.demands.specs.Statements.{AreBytes}
 use Rattle.stepping.specs.Stepping.{slotsVerdict, roomVerdict, runVerdict, ran}
 use Rattle.stepping.proofs.Moved.{IsMove, not-moved, Moves, moves, moved-words, same-answer}
-use Rattle.stepping.proofs.Steps.{located-by}
+use Rattle.image.proofs.Accepted.{accepted-located}
 use Rattle.ntif.proofs.Kept.{written-kept}
 use Rattle.ntif.proofs.Starting.{eqb-capped, after-test, after-same, back-table}
 
@@ -51,10 +51,10 @@ module _ (s : List ℕ) (q : ℕ) (budget : ℕ) {m slots label ten : List ℤ} 
 
   module _ (e : imageVerdict s ≡ Accepted) where
     few-variables : length (tablesOf s .variables) ≤ 64
-    few-variables = let l = located-by s e in omega (arith, laid l .variablesMost, variables-count l)
+    few-variables = let l = accepted-located refl e in omega (arith, laid l .variablesMost, variables-count l)
 
     few-states : length (tablesOf s .states) ≤ 64
-    few-states = let l = located-by s e in omega (arith, laid l .statesMost, states-count l)
+    few-states = let l = accepted-located refl e in omega (arith, laid l .statesMost, states-count l)
 
     run-capped : runVerdict (tablesOf s) (state (min q 65535)) slots budget ten ≡ runVerdict (tablesOf s) (state q) m budget label
     run-capped =

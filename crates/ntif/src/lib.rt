@@ -7,6 +7,7 @@ ghost use Rattle.model.specs.declared.Stepped.the-variants.{Moved};
 ghost use Rattle.model.specs.Answers.{state};
 ghost use Rattle.model.specs.Calls.{check, start, step};
 ghost use Rattle.model.specs.Exports.{packRefusal, packVerdict, packStepped, checkBytes, startBytes, stepBytes};
+use image::state_count;
 use image::trailer;
 use model::Image;
 use model::Move;
@@ -41,7 +42,7 @@ fn check_on(image: &[u8], sets: &mut [u64], masks: &mut [u64]) -> Verdict
         Verdict::Refused(_) => v,
         Verdict::Accepted => {
             let i = trailer(image);
-            copy(sets, masks, ((i.rows - i.states) / 2) as usize);
+            copy(sets, masks, state_count(image, i) as usize);
             v
         }
     }
@@ -55,13 +56,20 @@ pub fn check(image: &[u8], sets: &mut [u64]) -> Verdict
     check_on(image, sets, &mut masks)
 }
 
-// 0, or a refusal's number and its place from bit 16 on.
+// A refusal's number, and its place from bit 16 on.
+fn pack_refusal(y: Refusal) -> u64
+    ensures { λ n. ⌜ n ≡ packRefusal y ⌝ }
+{
+    y.number() as u64 + y.place() as u64 * 65536
+}
+
+// 0, or a refusal.
 fn pack_verdict(v: Verdict) -> u64
     ensures { λ n. ⌜ n ≡ packVerdict v ⌝ }
 {
     match v {
         Verdict::Accepted => 0,
-        Verdict::Refused(y) => y.number() as u64 + y.place() as u64 * 65536,
+        Verdict::Refused(y) => pack_refusal(y),
     }
 }
 
@@ -75,7 +83,7 @@ fn check_bytes_on(image: &[u8], sets: &mut [u8], masks: &mut [u64]) -> u64
         Verdict::Refused(_) => pack_verdict(v),
         Verdict::Accepted => {
             let i = trailer(image);
-            put_masks(sets, masks, ((i.rows - i.states) / 2) as usize);
+            put_masks(sets, masks, state_count(image, i) as usize);
             pack_verdict(v)
         }
     }
@@ -164,13 +172,6 @@ fn state_of(q: u32) -> State
         return State(q as u16);
     }
     State(65535)
-}
-
-// A refusal's number, and its place from bit 16 on.
-fn pack_refusal(y: Refusal) -> u64
-    ensures { λ n. ⌜ n ≡ packRefusal y ⌝ }
-{
-    y.number() as u64 + y.place() as u64 * 65536
 }
 
 // The next state from bit 8, the units from bit 16, the words from bit 40 on.

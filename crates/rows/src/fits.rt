@@ -15,12 +15,12 @@ use crate::lines::NEXT;
 use crate::lines::UNKNOWN;
 use crate::lines::kind;
 use crate::lines::line_of;
-use crate::sizes::row_count;
-use crate::sizes::state_count;
-use crate::sizes::type_count;
-use crate::sizes::variable_count;
 use image::fields;
+use image::row_count;
 use image::size;
+use image::state_count;
+use image::type_count;
+use image::variable_count;
 use model::Fields;
 use model::Image;
 

@@ -9,6 +9,8 @@ ghost use Rattle.image.specs.Located.{Located};
 ghost use Rattle.rows.specs.Judged.{Reading, rooted};
 use fits::malformed;
 use fits::names;
+use image::row_count;
+use image::state_count;
 use image::state_row;
 use lines::ACTION;
 use lines::CODES;
@@ -20,13 +22,10 @@ use model::Row;
 use model::State;
 use model::Verdict;
 use once::not_once;
-use sizes::row_count;
-use sizes::state_count;
 
 mod fits;
 mod lines;
 mod once;
-mod sizes;
 
 // A row of kind k.
 fn is_root(image: &[u8], i: Image, lines: &[u32; CODES], k: u32, r: u16) -> bool

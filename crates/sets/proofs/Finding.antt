@@ -7,7 +7,7 @@ use borrow.Author.Tests.{ne-eqb, eqb-true, eqb-false}
 use Rattle.model.specs.declared.{Image.Image, Verdict.Verdict, Verdict.the-variants.Accepted, Verdict.the-variants.Refused, Refusal.the-variants.Initialisation}
 use Rattle.model.specs.Answers.{state}
 use Rattle.model.specs.Masks.{digit, Has, has, full}
-use Rattle.model.specs.Image.{Tables, none, tablesOf, stateCount, variableCount}
+use Rattle.model.specs.Image.{Tables, none, tablesOf, stateCount}
 use Rattle.model.specs.Binding.{parametersOf}
 use Rattle.model.specs.Decode.{actionAt, act}
 use Rattle.model.specs.Sets.{fine}
@@ -16,14 +16,14 @@ use Rattle.model.proofs.Bytes.{length-table, getD-table}
 use Rattle.model.proofs.Masks.{digit-le, digit-zero, has-digit, digit-has, sub-refl}
 use Rattle.model.proofs.Order.{lowest-full, each-accepts, each-refuses}
 use Rattle.image.specs.Located.{StateOf, Rooted}
-use Rattle.image.proofs.Laid.{laid, variables-count, states-count}
+use Rattle.image.proofs.Laid.{laid, states-count}
 use Rattle.demands.proofs.Greatest.{Leads, reached-all, reached-in, at-rest, one-largest}
 use Rattle.demands.proofs.Solved.{sets-length, sets-largest}
 use Rattle.demands.proofs.Reaching.{reached-sound, reached-found}
 use Rattle.sets.specs.declared.flow.Went.{Went}
 use Rattle.sets.specs.Flow.{flow, Walked, Ready}
 use Rattle.sets.specs.States.{setAt, Beginning, Above, Given, Lowest, Marked, Settled, Judged, EachState, Found}
-use Rattle.sets.proofs.Entries.{parameters-in}
+use Rattle.masks.proofs.ParameterMask.{parameters-in}
 use Rattle.sets.proofs.Leading.{leads-of, lead-inside, lead-is}
 use Rattle.sets.proofs.Relaxing.{near, by-state, state-small, state-ready, relaxed, fine-as}
 use Rattle.sets.proofs.Turning.{Turn, due-as, turn-as}
@@ -181,17 +181,17 @@ module _ {x : Tables} {wrong : ℕ} {l : List ℕ} (d : Settled x wrong l) where
   }
 
 -- ---- the whole
-pub top-is : {s : List ℕ} {i : Image} → Rooted s i → (n top : ℕ) → n ≡ variableCount i → top ≡ full n → top ≡ topOf (tablesOf s)
-top-is h n top e f = f ∙ ap full (e ∙ sym (variables-count (h .formed .located)))
+pub top-is : (x : Tables) (n top : ℕ) → n ≡ length (x .variables) → top ≡ full n → top ≡ topOf x
+top-is x n top e f = f ∙ ap full e
 
 module _ {s : List ℕ} {i : Image} {uses defs leads l : List ℕ} (d : EachState s i uses defs leads l) where
-  pub given-of : (n top : ℕ) → n ≡ variableCount i → top ≡ full n → Given s i uses defs leads top
+  pub given-of : (n top : ℕ) → n ≡ length (tablesOf s .variables) → top ≡ full n → Given s i uses defs leads top
   given-of n top f g =
       let h = d .lending .filled in
       record {
         leading = record { rooted = d .lending .rooted; led = record { leadRow = h .leadRow; leadsSize = h .leadsSize } };
         masks = record { useRow = h .useRow; defRow = h .defRow; usesSize = h .usesSize; defsSize = h .defsSize };
-        all = top-is (d .lending .rooted) n top f g;
+        all = top-is (tablesOf s) n top f g;
       }
 
   pub begun-staged : {m : List ℕ} → m ≡ begun (tablesOf s) → Above (tablesOf s) m

@@ -1,5 +1,4 @@
 pub mod Forms
-pub mod Entries
 pub mod Leading
 pub mod Tests
 pub mod Rest

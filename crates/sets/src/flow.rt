@@ -3,7 +3,6 @@ ghost use mathlib.Core.Path.{_≡_};
 ghost use mathlib.Core.Logic.{_⊎_};
 ghost use Prim.Native.Nat.{_<_};
 ghost use lib.ListN.{length};
-ghost use Rattle.model.specs.Masks.{inside};
 ghost use Rattle.model.specs.Image.{none, tablesOf};
 ghost use Rattle.model.specs.Rows.{branch, arm};
 ghost use Rattle.model.specs.Decode.{actionAt};
@@ -11,6 +10,7 @@ ghost use Rattle.masks.specs.Masks.{branchesAt, armsAt};
 ghost use Rattle.sets.specs.Flow.{maskAt, stayed, flow, flowBranches, flowArms, Walked, Plain, Ready, ReadyAs, Single, Loop, ReadyList, Jump, PlainRow};
 use image::code;
 use image::fields;
+use masks::inside;
 use model::Image;
 
 // What a walk gives: the set that holds where the action ends, the states whose sets changed, whether no error is raised.
@@ -18,13 +18,6 @@ pub struct Went {
     pub ends: u64,
     pub moved: u64,
     pub fine: bool,
-}
-
-// Is each of a in b?
-fn within(a: u64, b: u64) -> bool
-    ensures { λ r. ⌜ r ≡ inside a b ⌝ }
-{
-    a & b == a
 }
 
 // A row's mask; nothing for no row.
@@ -59,16 +52,16 @@ fn plain(image: &[u8], i: Image, uses: &[u64], defs: &[u64], row: u16, entering:
     match c {
         49 => {
             let after = entering | mask_at(defs, w.a);
-            stays(after, within(mask_at(uses, w.a), entering))
+            stays(after, inside(mask_at(uses, w.a), entering))
         }
         50 => {
             let after = entering | mask_at(defs, w.a);
-            stays(after, within(mask_at(uses, w.b), after))
+            stays(after, inside(mask_at(uses, w.b), after))
         }
         51 => stays(entering & !mask_at(defs, w.a), true),
         52 => {
             let after = entering | mask_at(defs, w.b);
-            stays(after, within(mask_at(uses, w.b), after))
+            stays(after, inside(mask_at(uses, w.b), after))
         }
         _ => stays(entering, true),
     }
@@ -174,7 +167,7 @@ fn walk_single(
             Went {
                 ends: r.ends,
                 moved: r.moved,
-                fine: within(used, entering) & r.fine,
+                fine: inside(used, entering) & r.fine,
             }
         }
         59 | 60 => walk_loop(image, i, uses, defs, row, entering, top, out),
@@ -262,6 +255,6 @@ fn walk_loop(
     Went {
         ends: kept,
         moved: r.moved,
-        fine: within(mask_at(uses, w.a), kept) & r.fine & within(kept, r.ends | variable),
+        fine: inside(mask_at(uses, w.a), kept) & r.fine & inside(kept, r.ends | variable),
     }
 }

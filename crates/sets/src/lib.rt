@@ -5,14 +5,14 @@ ghost use mathlib.Core.Path.{_≡_};
 ghost use Prim.Native.Nat.{_≤_, _<_};
 ghost use lib.ListN.{length};
 ghost use Rattle.model.specs.Masks.{full};
-ghost use Rattle.model.specs.Image.{tablesOf, stateCount, variableCount};
-ghost use Rattle.model.specs.Binding.{parametersOf};
+ghost use Rattle.model.specs.Image.{tablesOf};
 ghost use Rattle.model.specs.Largest.{begun};
-ghost use Rattle.image.specs.Located.{Formed};
 ghost use Rattle.sets.specs.States.{Lowest, Marked, Beginning, Staged, Settled, Judged, EachState, Room, Found};
 use flow::walk;
-use image::parameter;
+use image::state_count;
 use image::state_row;
+use image::variable_count;
+use masks::parameters;
 use model::Image;
 use model::Refusal;
 use model::State;
@@ -26,20 +26,6 @@ fn lowest(m: u64) -> u16
     u64::trailing_zeros(m) as u16
 }
 
-fn states(i: Image) -> u16
-    requires { ⌜ i .states ≤ i .rows ⌝ }
-    ensures { λ r. ⌜ r ≡ stateCount i ⌝ }
-{
-    (i.rows - i.states) / 2
-}
-
-fn variables(i: Image) -> u16
-    requires { ⌜ i .variables ≤ i .states ⌝ }
-    ensures { λ r. ⌜ r ≡ variableCount i ⌝ }
-{
-    (i.states - i.variables) / 4
-}
-
 // All below n.
 fn all(n: u16) -> u64
     requires { ⌜ n ≤ 64 ⌝ }
@@ -49,20 +35,6 @@ fn all(n: u16) -> u64
         return !0;
     }
     (1 << n) - 1
-}
-
-// The parameters, from the last variable down.
-fn parameters(image: &[u8], i: Image) -> u64
-    requires { ⌜ Formed (now image) i ⌝ }
-    ensures { λ r. ⌜ r ≡ parametersOf (tablesOf (now (image .entry)) .variables) ⌝ }
-{
-    let mut v = variables(i);
-    let mut m: u64 = 0;
-    while 0 < v {
-        v -= 1;
-        m = m * 2 + parameter(image, i, v) as u64;
-    }
-    m
 }
 
 // At first the parameters at state 0, all variables elsewhere.
@@ -133,7 +105,7 @@ fn initialisation(
     requires { ⌜ EachState (now image) i (now uses) (now defs) (now leads) (now sets) ⌝ }
     ensures { λ r. ⌜ Judged (tablesOf (now (image .entry))) r (now (sets .exit)) ⌝ }
 {
-    let top = all(variables(i));
+    let top = all(variable_count(image, i));
     begin(image, i, top, sets);
     let wrong = settle(image, i, uses, defs, leads, top, sets);
     if wrong == 0 {
@@ -154,6 +126,6 @@ pub fn sets_verdict(
     requires { ⌜ Room (now image) i (now uses) (now defs) (now leads) (now sets) ⌝ }
     ensures { λ r. ⌜ Found (tablesOf (now (image .entry))) r (now (sets .entry)) (now (sets .exit)) ⌝ }
 {
-    let n = states(i) as usize;
+    let n = state_count(image, i) as usize;
     initialisation(image, i, uses, defs, leads, &mut sets[..n])
 }

@@ -5,13 +5,9 @@ use native.Mathlib.{Omega.arith, Decide.ℕ-discrete}
 use lib.{ListN.length, ListN.getD, ListN.set, ListN.length-set, Seq.getD-set-same, Seq.getD-set-other}
 use Rattle.model.specs.declared.Image.{Image}
 use Rattle.model.specs.Image.{Tables, tablesOf, rowCount}
-use Rattle.image.specs.Located as located
 use Rattle.image.proofs.Laid.{laid}
 use Rattle.speech.specs.Both.{Both, unpacked}
 use Rattle.speech.specs.Filled.{waysAt, Filled, Lent, Ready}
-
-pub rows-in : {s : List ℕ} {i : Image} → located.Formed s i → i .rows + 16 ≤ i .length
-rows-in h = let l = laid (h .located) in omega (arith, l .exact, l .ends)
 
 -- rows below r are filled in, of n rows in all
 pub record Passing (s : List ℕ) (i : Image) (was : List ℕ) (n : ℕ) (ways : List ℕ) (r : ℕ) : Type 0 where

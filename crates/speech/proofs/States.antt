@@ -30,33 +30,30 @@ abbrev passes : Tables → ℕ → Bool
 passes x q = wellSpoken x (act x q)
 
 -- the states below q pass, of n states in all
-pub record Looking (s : List ℕ) (i : Image) (n q : ℕ) : Type 0 where
-  pub count : n ≡ stateCount i
+pub record Looking (s : List ℕ) (n q : ℕ) : Type 0 where
+  pub count : n ≡ length (tablesOf s .states)
   pub upto : q ≤ n
   pub low : lowest (passes (tablesOf s)) q ≡ q
 
-pub begun : {s : List ℕ} {i : Image} {n : ℕ} → n ≡ stateCount i → Looking s i n 0
+pub begun : {s : List ℕ} {n : ℕ} → n ≡ length (tablesOf s .states) → Looking s n 0
 begun {s} e = record { count = e; upto = omega arith; low = lowest-full (passes (tablesOf s)) 0 (λ k h. absurd (omega arith)) }
 
 module _ {s : List ℕ} {i : Image} {ways : List ℕ} (h : Judged s i ways) where
   abbrev x : Tables
   x = tablesOf s
 
-  pub states-in : i .states ≤ i .rows
-  states-in = let l = laid (h .lent .rooted .formed .located) in omega (arith, l .rows)
-
   count-is : length (x .states) ≡ stateCount i
   count-is = states-count (h .lent .rooted .formed .located)
 
-  module _ {n q : ℕ} (p : Looking s i n q) (l : q < n) where
+  module _ {n q : ℕ} (p : Looking s n q) (l : q < n) where
     pub state-of : StateOf s i q
-    state-of = record { located = h .lent .rooted .formed .located; inside = omega (arith, p .count) }
+    state-of = record { located = h .lent .rooted .formed .located; inside = omega (arith, p .count, count-is) }
 
     pub in-u16 : q + 1 < 65536
-    in-u16 = omega (arith, p .count, laid (h .lent .rooted .formed .located) .statesMost)
+    in-u16 = omega (arith, p .count, count-is, laid (h .lent .rooted .formed .located) .statesMost)
 
     root : isRoot x action (getD (x .states) q none) ≡ true
-    root = h .lent .rooted .states q (omega (arith, p .count, count-is))
+    root = h .lent .rooted .states q (omega (arith, p .count))
 
     in-rows : (getD (x .states) q none < length (x .rows)) × (isKind x action (getD (x .states) q none) ≡ true)
     unfolding isRoot
@@ -72,15 +69,15 @@ module _ {s : List ℕ} {i : Image} {ways : List ℕ} (h : Judged s i ways) wher
         let f = h .filled .each r (omega (arith, in-rows .0, rows-count (h .lent .rooted .formed .located))) in
         d ∙ rw e (ap endsRight (f ∙ action-ways x r (in-rows .1)))
 
-    pub passed : passes (tablesOf s) q ≡ true → Looking s i n (q + 1)
+    pub passed : passes (tablesOf s) q ≡ true → Looking s n (q + 1)
     passed t = record { count = p .count; upto = omega arith; low = lowest-pass (passes x) q (p .low) t }
 
     pub refused : passes (tablesOf s) q ≡ false → Refused (Speech (state q)) ≡ speechVerdict (tablesOf s)
     unfolding speechVerdict
-    refused t = sym (each-refuses (passes x) (length (x .states)) (λ k. Speech (state k)) q (p .low) (omega (arith, p .count, count-is)) t)
+    refused t = sym (each-refuses (passes x) (length (x .states)) (λ k. Speech (state k)) q (p .low) (omega (arith, p .count)) t)
 
-  pub accepted : {n q : ℕ} → Looking s i n q → n ≤ q → Accepted ≡ speechVerdict (tablesOf s)
+  pub accepted : {n q : ℕ} → Looking s n q → n ≤ q → Accepted ≡ speechVerdict (tablesOf s)
   unfolding speechVerdict
   accepted {n} {q} p l =
-      let e : q ≡ length (x .states) = omega (arith, p .count, p .upto, count-is) in
+      let e : q ≡ length (x .states) = omega (arith, p .count, p .upto) in
       sym (each-full (passes x) (length (x .states)) (λ k. Speech (state k)) (rw e at (p .low)))

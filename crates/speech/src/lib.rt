@@ -4,15 +4,17 @@ mod arms;
 mod ways;
 
 ghost use mathlib.Core.Path.{_≡_};
-ghost use Prim.Native.Nat.{_+_, _≤_, _<_};
+ghost use Prim.Native.Nat.{_<_};
 ghost use lib.ListN.{length, getD};
-ghost use Rattle.model.specs.Image.{tablesOf, rowCount, stateCount};
+ghost use Rattle.model.specs.Image.{tablesOf, rowCount};
 ghost use Rattle.speech.specs.Both.{bothOf, unpacked};
 ghost use Rattle.speech.specs.Filled.{waysAt, Filled, Lent, Ready};
 ghost use Rattle.speech.specs.Verdict.{speechVerdict, Judged, endsRight};
 use arms::always;
 use arms::exhaustive;
 use image::fields;
+use image::row_count;
+use image::state_count;
 use image::state_row;
 use model::Image;
 use model::Refusal;
@@ -49,26 +51,12 @@ fn row_ways(image: &[u8], i: Image, r: u16, ways: &[u8]) -> Modes
     }
 }
 
-fn row_count(i: Image) -> u16
-    requires { ⌜ i .rows + 16 ≤ i .length ⌝ }
-    ensures { λ n. ⌜ n ≡ rowCount i ⌝ }
-{
-    (i.length - 16 - i.rows) / 8
-}
-
-fn state_count(i: Image) -> u16
-    requires { ⌜ i .states ≤ i .rows ⌝ }
-    ensures { λ n. ⌜ n ≡ stateCount i ⌝ }
-{
-    (i.rows - i.states) / 2
-}
-
 // One pass over the rows, lowest first: a row names only lower rows.
 fn fill(image: &[u8], i: Image, ways: &mut [u8])
     requires { ⌜ Lent (now image) i (now ways) ⌝ }
     ensures { λ _. ⌜ Filled (tablesOf (now (image .entry))) (rowCount i) (now (ways .exit)) ⌝ }
 {
-    let n = row_count(i);
+    let n = row_count(image, i);
     let mut r: u16 = 0;
     while r < n {
         let w = row_ways(image, i, r, ways);
@@ -92,7 +80,7 @@ fn judged(image: &[u8], i: Image, ways: &[u8]) -> Verdict
     requires { ⌜ Judged (now image) i (now ways) ⌝ }
     ensures { λ r. ⌜ r ≡ speechVerdict (tablesOf (now (image .entry))) ⌝ }
 {
-    let n = state_count(i);
+    let n = state_count(image, i);
     let mut s: u16 = 0;
     while s < n {
         let r = state_row(image, i, s);

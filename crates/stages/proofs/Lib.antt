@@ -1,2 +1,3 @@
 pub mod Order
 pub mod Stages
+pub mod Cleared

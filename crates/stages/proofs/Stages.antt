@@ -16,12 +16,12 @@ use Rattle.model.proofs.Rows.{both-true}
 use Rattle.model.proofs.Order.{after-accepted, after-refused, after-assoc, after-both, unless-true, each-all}
 use Rattle.image.specs.Located.{Located, Formed, Rooted, headerVerdict}
 use Rattle.masks.specs.Masks.{Filled}
-use Rattle.masks.specs.Rows.{Lent as MasksLent}
-use Rattle.binding.specs.Bound.{bindingVerdict, Masked as BindingMasked}
+use Rattle.masks.specs.Rows.{Lent}
+use Rattle.binding.specs.Bound.{bindingVerdict}
 use Rattle.sets.specs.States.{Lending, Room, Found as SetsFound}
 use Rattle.image.proofs.Laid.{laid, states-count}
 use Rattle.typing.specs.Rules.{typingVerdict}
-use Rattle.stages.specs.Judging.{tablesVerdict, Lent, Ruled, Masked, roomStage, leaves, Gives, foundVerdict, Found, Flowing, roomVerdict, Flowed, treesVerdict, Judged, Treeing, Sized, Ruling, Checks}
+use Rattle.stages.specs.Judging.{tablesVerdict, Ruled, Masked, roomStage, leaves, Gives, foundVerdict, Found, Flowing, roomVerdict, Flowed, treesVerdict, Judged, Treeing, Sized, Ruling, Checks}
 use Rattle.stages.proofs.Order.{image-is}
 use Rattle.speech.specs.Verdict.{speechVerdict}
 use Rattle.speech.specs.Filled.{Lent as SpeechLent}
@@ -91,12 +91,6 @@ pub rules-binding : (x : Tables) (v : Verdict) → typingVerdict x ≡ Accepted 
 unfolding rulesVerdict typingVerdict bindingVerdict
 rules-binding x v e f = f ∙ sym (after-accepted (each (typed x) (length (x .rows)) (λ r. Typing (row r))) _ e)
 
-pub to-fill : {s : List ℕ} {i : Image} {uses defs leads : List ℕ} → Lent s i uses defs leads → MasksLent s i uses defs leads
-to-fill l = record { rooted = l .rooted; usesSize = l .usesSize; defsSize = l .defsSize; leadsSize = l .leadsSize }
-
-pub to-bind : {s : List ℕ} {i : Image} {uses defs leads : List ℕ} → Rooted s i → Filled (tablesOf s) (rowCount i) uses defs leads → BindingMasked s i uses defs
-to-bind r f = record { rooted = r; useRow = f .useRow; defRow = f .defRow; usesSize = f .usesSize; defsSize = f .defsSize }
-
 -- a verdict that is known and refuses
 pub tables-stays : (s : List ℕ) (v : Verdict) (y : Refusal) → v ≡ headerVerdict s → v ≡ Refused y → v ≡ tablesVerdict s
 tables-stays s v y e f = f ∙ tables-refused s y (sym e ∙ f)
@@ -108,9 +102,6 @@ rules-stays x v y e f = f ∙ rules-refused x y (sym e ∙ f)
 states-known : {s : List ℕ} {i : Image} → Rooted s i → length (tablesOf s .states) ≡ stateCount i
 states-known r = states-count (r .formed .located)
 
-pub states-order : {s : List ℕ} {i : Image} → Rooted s i → i .states ≤ i .rows
-states-order r = let l = laid (r .formed .located) in omega (arith, l .rows)
-
 leaves-on : (v w : Verdict) (x : Tables) (was : List ℕ) → v ≡ Accepted → leaves (after v w) x was ≡ leaves w x was
 leaves-on v w x was e = ap (λ (u : Verdict). leaves u x was) (after-accepted v w e)
 
@@ -118,18 +109,18 @@ leaves-none : (v w : Verdict) (x : Tables) (was : List ℕ) (y : Refusal) → v 
 unfolding leaves
 leaves-none v w x was y e = ap (λ (u : Verdict). leaves u x was) (after-refused v w y e)
 
-pub found-short : {s : List ℕ} {i : Image} (room : ℕ) (was : List ℕ) → Rooted s i → room < (i .rows - i .states) / 2
+pub found-short : (s : List ℕ) (room n : ℕ) (was : List ℕ) → n ≡ length (tablesOf s .states) → room < n
     → Found (tablesOf s) room (Refused SetsShort) was was
 unfolding foundVerdict after leaves
-found-short {s} room was r h =
-    let f = lt-leb (length (tablesOf s .states)) room (omega (arith, states-known r)) in
+found-short s room n was e h =
+    let f = lt-leb (length (tablesOf s .states)) room (omega arith) in
     record { verdict = rw f; left = rw f }
 
-pub found-sets : {s : List ℕ} {i : Image} (room : ℕ) (v : Verdict) (was masks : List ℕ) → Rooted s i → (i .rows - i .states) / 2 ≤ room
+pub found-sets : (s : List ℕ) (room n : ℕ) (v : Verdict) (was masks : List ℕ) → n ≡ length (tablesOf s .states) → n ≤ room
     → SetsFound (tablesOf s) v was masks → Found (tablesOf s) room v was masks
 unfolding foundVerdict after leaves
-found-sets {s} room v was masks r h f =
-    let t = le-leb (length (tablesOf s .states)) room (omega (arith, states-known r)) in
+found-sets s room n v was masks e h f =
+    let t = le-leb (length (tablesOf s .states)) room (omega arith) in
     record { verdict = f .verdict ∙ rw t; left = f .first ∙ rw t }
 
 pub to-sets : {s : List ℕ} {i : Image} {uses defs leads masks : List ℕ} → Masked s i uses defs leads masks → Room s i uses defs leads masks
@@ -243,26 +234,8 @@ pub trailer-there : (s : List ℕ) {v : Verdict} → v ≡ tablesVerdict s → v
 unfolding tablesVerdict
 trailer-there s f e = trailer-inside s (after-both (headerVerdict s) (rowsVerdict (tablesOf s)) (sym f ∙ e) .0)
 
--- scratch for so many rows
-pub to-trees : {s : List ℕ} {i : Image} {most : ℕ} {uses defs leads masks ways : List ℕ} → Sized s i most masks → most ≤ length uses → most ≤ length defs
-    → most ≤ length leads → most ≤ length ways → Treeing s i uses defs leads masks ways
-to-trees z u d l w =
-    record {
-      lent = record {
-        rooted = z .rooted;
-        usesSize = omega (arith, z .rows, u);
-        defsSize = omega (arith, z .rows, d);
-        leadsSize = omega (arith, z .rows, l);
-      };
-      room = z .room;
-      waysSize = omega (arith, z .rows, w);
-    }
-
 pub to-sized : {s : List ℕ} {i : Image} {masks : List ℕ} → Rooted s i → 64 ≤ length masks → Sized s i 2048 masks
 to-sized r m = record { rooted = r; rows = laid (r .formed .located) .rowsMost; room = m }
-
-pub smaller : {s : List ℕ} {i : Image} {most : ℕ} {masks : List ℕ} (n : ℕ) → Sized s i most masks → rowCount i ≤ n → Sized s i n masks
-smaller n z h = record { rooted = z .rooted; rows = h; room = z .room }
 
 pub rooted-there : (s : List ℕ) (i : Image) {v : Verdict} → i ≡ trailerOf s → v ≡ tablesVerdict s → v ≡ Accepted → Rooted s i
 rooted-there s i t f e = rooted-of s i t (sym f ∙ e)

@@ -4,22 +4,17 @@ use Prim.Native.Nat.{ℕ, _≤_}
 use lib.{Dec.leb, ListN.length, ListN.drop}
 use Rattle.model.specs.declared.{Image.Image, Verdict.Verdict, Verdict.the-variants.Accepted, Verdict.the-variants.Refused, Refusal.the-variants.SetsShort, Refusal.the-variants.Initialisation}
 use Rattle.model.specs.Answers.{state, after, unless, each}
-use Rattle.model.specs.Image.{Tables, tablesOf, rowCount, stateCount}
+use Rattle.model.specs.Image.{Tables, trailerOf, tablesOf, rowCount, stateCount}
 use Rattle.model.specs.Largest.{reachedOf, setsOf, initialised}
 use Rattle.model.specs.Calls.{rowsVerdict, rulesVerdict, imageVerdict, flowVerdict, checkVerdict}
 use Rattle.image.specs.Located.{Rooted, headerVerdict}
+use Rattle.demands.specs.Statements.{AreBytes}
 use Rattle.masks.specs.Masks.{Filled}
+use Rattle.masks.specs.Rows.{Lent}
 
 -- 1 to 7
 unfoldable pub tablesVerdict : List ℕ → Verdict
 tablesVerdict s = after (headerVerdict s) (rowsVerdict (tablesOf s))
-
--- an image free of 1 to 7, and room for the masks of its rows
-pub record Lent (s : List ℕ) (i : Image) (uses defs leads : List ℕ) : Type 0 where
-  pub rooted : Rooted s i
-  pub usesSize : rowCount i ≤ length uses
-  pub defsSize : rowCount i ≤ length defs
-  pub leadsSize : rowCount i ≤ length leads
 
 -- 8 and 9, the masks filled in
 pub record Ruled (x : Tables) (n : ℕ) (r : Verdict) (uses defs leads : List ℕ) : Type 0 where
@@ -93,3 +88,9 @@ pub record Ruling (s : List ℕ) (i : Image) (most : ℕ) : Type 0 where
 -- 1 to 12
 abbrev pub Checks : List ℕ → ℕ → Verdict → List ℕ → List ℕ → Type 0
 Checks s room = Gives (checkVerdict s room) (after (imageVerdict s) (roomStage (tablesOf s) room)) (tablesOf s)
+
+-- an image free of 1 to 9, with its trailer: what start and step go on with
+pub record Cleared (s : List ℕ) (i : Image) : Type 0 where
+  pub bytes : AreBytes s
+  pub trailer : i ≡ trailerOf s
+  pub passed : imageVerdict s ≡ Accepted

@@ -3,13 +3,15 @@ ghost use mathlib.Core.Path.{_≡_};
 ghost use lib.ListN.{length};
 ghost use Rattle.model.specs.Image.{tablesOf, rowCount};
 ghost use Prim.Native.Nat.{_≤_};
-ghost use Rattle.stages.specs.Judging.{tablesVerdict, Lent, Ruled, Masked, Found, Flowing, Flowed, Treeing, Judged, Sized, Ruling, Checks};
+ghost use Rattle.masks.specs.Rows.{Lent};
+ghost use Rattle.stages.specs.Judging.{tablesVerdict, Ruled, Masked, Found, Flowing, Flowed, Treeing, Judged, Sized, Ruling, Checks};
 ghost use Rattle.model.specs.Calls.{rulesVerdict, imageVerdict};
 use binding::binding_verdict;
 use header::header;
+use image::row_count;
+use image::state_count;
 use image::trailer;
 use masks::fill;
-use masks::row_count;
 use model::Image;
 use model::Refusal;
 use model::Verdict;
@@ -58,7 +60,7 @@ fn found(
     requires { ⌜ Masked (now image) i (now uses) (now defs) (now leads) (now masks) ⌝ }
     ensures { λ r. ⌜ Found (tablesOf (now (image .entry))) room r (now (masks .entry)) (now (masks .exit)) ⌝ }
 {
-    if room < ((i.rows - i.states) / 2) as usize {
+    if room < state_count(image, i) as usize {
         return Verdict::Refused(Refusal::SetsShort);
     }
     sets_verdict(image, i, uses, defs, leads, masks)

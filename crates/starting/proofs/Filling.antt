@@ -2,7 +2,7 @@
 use mathlib.Core.{Path._≡_, Path.refl, Path.sym, Path.ap, Path._∙_, Bool.Bool, Bool.true, Bool.false, Bool.cond, List.List, List.[], List._∷_, List._++_, List.append-nil}
 use Prim.Native.Nat.{ℕ, zero, suc, _+_, _^_, _≤_, _<_}
 use native.Mathlib.{Omega.arith, Numerals.add-one, Nat.add-zero, Nat.zero-add}
-use lib.{Dec.eqb, IntN.ℤ, IntN.pos, Signed.mag, ListN.length, ListN.getD, ListN.set, ListN.take, ListN.drop, ListN.take-append-drop, ListN.drop-of-length-le, Seq.take-suc, Seq.take-all, Seq.drop-cons, Seq.take-suc-set, Seq.paste-suc}
+use lib.{Dec.eqb, IntN.ℤ, IntN.pos, Signed.mag, ListN.length, ListN.getD, ListN.set, ListN.take, ListN.drop, ListN.take-append-drop, ListN.drop-of-length-le, Seq.take-suc, Seq.take-all, Seq.drop-cons, Seq.take-suc-set}
 use borrow.Author.Tests.{eq-eqb, ne-eqb, eqb-true, eqb-false}
 use Rattle.values.proofs.Held.{held, held-is}
 use Rattle.model.specs.Values.{half16, mark}
@@ -109,12 +109,3 @@ given-value zs {p} k e h = rw (held-is (getD zs k (pos 0)) h, eq-eqb p 1 e)
 pub given-mark : (zs : List ℤ) {p : ℕ} (k : ℕ) → (p ≡ 1 → ⊥) → pos 65536 ≡ givenTo p zs k
 unfolding givenTo
 given-mark zs {p} k n = rw (ne-eqb p 1 n)
-
--- one more slot copied
-pub copied-next : (ms was s : List ℤ) (i : ℕ) → i < length ms → i < length was → mag (getD ms i (pos 0)) < 2 ^ 31 → s ≡ take i ms ++ drop i was
-    → set s i (held (getD ms i (pos 0))) ≡ take (i + 1) ms ++ drop (i + 1) was
-copied-next ms was s i h k f e =
-    rw (held-is (getD ms i (pos 0)) f, e, add-one) (simp zero-add at (paste-suc was 0 ms i (pos 0) (rw zero-add k) h))
-
-pub copied-all : (ms was s : List ℤ) (i : ℕ) → length ms ≤ i → length was ≤ i → s ≡ take i ms ++ drop i was → s ≡ ms
-copied-all ms was s i h k e = e ∙ rw (take-all i ms h, drop-of-length-le was k) (append-nil ms)

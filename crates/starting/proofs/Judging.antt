@@ -8,24 +8,21 @@ use Rattle.values.proofs.Held.{held, held-is}
 use Rattle.model.specs.declared.{Image.Image, Verdict.Verdict, Verdict.the-variants.Accepted, Verdict.the-variants.Refused, Refusal.Refusal, Refusal.the-variants.StoreLength, Refusal.the-variants.ParameterCount, Refusal.the-variants.ParameterValue, Refusal.the-variants.ConditionFalse, Tested.Tested, Tested.the-variants.Holds, Tested.the-variants.Fails, Tested.the-variants.Unsure}
 use Rattle.model.specs.Answers.{variable, after, unless, lowest, each}
 use Rattle.model.specs.Values.{ofSize}
-use Rattle.model.specs.Image.{Tables, trailerOf, tablesOf, variableCount, entryOf, typeOf, sizeOf}
+use Rattle.model.specs.Image.{Tables, trailerOf, tablesOf, entryOf, typeOf, sizeOf}
 use Rattle.model.specs.Rows.{expression, isRoot}
 use Rattle.model.specs.Decode.{initial, expressionAt}
 use Rattle.model.specs.Run.{slot, test}
 use Rattle.model.specs.Calls.{imageVerdict, parameterCount, started, slotOfType, startVerdict, Started, start}
 use Rattle.model.proofs.Rows.{both-true}
 use Rattle.model.proofs.Order.{after-accepted, after-refused, each-full, each-refuses, each-all}
-use Rattle.image.proofs.Laid.{laid, condition-is}
+use Rattle.image.proofs.Laid.{condition-is}
 use Rattle.expressions.specs.Ready.{Runs}
+use Rattle.expressions.proofs.Operated.{getD-any}
 use Rattle.demands.proofs.Begun.{begun-typed}
-use Rattle.starting.specs.Starting.{rightAt, parametersVerdict, conditionVerdict, valuesVerdict, countsVerdict, begun, counted, Cleared, Filling, Typed, Filled, Begins}
-use Rattle.starting.proofs.Clearing.{located-of, all, located, variables-are}
-
--- a slot inside the store, read with another default
-getD-any : (l : List ℤ) (v : ℕ) (d e : ℤ) → v < length l → getD l v d ≡ getD l v e
-getD-any [] v d e h = absurd (omega arith)
-getD-any (z ∷ l) zero d e h = refl
-getD-any (z ∷ l) (suc v) d e h = getD-any l v d e (omega arith)
+use Rattle.stages.specs.Judging.{Cleared}
+use Rattle.stages.proofs.Cleared.{located}
+use Rattle.starting.specs.Starting.{rightAt, parametersVerdict, conditionVerdict, valuesVerdict, countsVerdict, begun, counted, Filling, Typed, Filled, Begins}
+use Rattle.starting.proofs.Clearing.{all}
 
 -- one variable
 module _ (x : Tables) (m : List ℤ) (v : ℕ) {p : ℕ} (e : p ≡ entryOf x (variable v) .parameter) where
@@ -126,15 +123,9 @@ module _ (x : Tables) (params store : List ℤ) where
   unfolding counted countsVerdict begun after
   counted-begun e f g = g ∙ sym (rw (eq-eqb (length store) (length (x .variables)) e, eq-eqb (length params) (parameterCount (x .variables)) f))
 
-pub trailer-there : (s : List ℕ) {v : Verdict} → v ≡ imageVerdict s → v ≡ Accepted → 16 ≤ length s
-trailer-there s f e = omega (arith, laid (located-of s (sym f ∙ e)) .long)
-
-pub to-count : {s : List ℕ} {i : Image} {v : Verdict} → ((j : ℕ) → getD s j 0 < 256) → i ≡ trailerOf s → v ≡ imageVerdict s → v ≡ Accepted → Cleared s i
-to-count b t f e = record { bytes = record { each = b }; trailer = t; passed = sym f ∙ e }
-
-pub to-begin : {s : List ℕ} {i : Image} {params store : List ℤ} {n : ℕ} → Cleared s i → length store ≡ variableCount i → n ≡ parameterCount (tablesOf s .variables)
+pub to-begin : {s : List ℕ} {i : Image} {params store : List ℤ} {n : ℕ} → Cleared s i → length store ≡ length (tablesOf s .variables) → n ≡ parameterCount (tablesOf s .variables)
     → length params ≡ n → Filling s i params store
-to-begin h e f g = record { slotted = record { cleared = h; slots = e ∙ sym (variables-are h) }; values = g ∙ f }
+to-begin h e f g = record { slotted = record { cleared = h; slots = e }; values = g ∙ f }
 
 -- 1 to 9
 module _ (s : List ℕ) (params store : List ℤ) {v : Verdict} (f : v ≡ imageVerdict s) where

@@ -2,13 +2,13 @@
 use mathlib.Core.{Path._≡_, Bool.Bool, Bool.cond, Bool.not, Bool._||_, List.List}
 use Prim.Native.Nat.{ℕ, _<_}
 use lib.{Dec.eqb, IntN.ℤ, IntN.pos, ListN.length, ListN.getD}
-use Rattle.model.specs.declared.{Image.Image, Verdict.Verdict, Verdict.the-variants.Accepted, Refusal.the-variants.StoreLength, Refusal.the-variants.ParameterCount, Refusal.the-variants.ParameterValue, Refusal.the-variants.ConditionFalse}
+use Rattle.model.specs.declared.{Image.Image, Verdict.Verdict, Refusal.the-variants.StoreLength, Refusal.the-variants.ParameterCount, Refusal.the-variants.ParameterValue, Refusal.the-variants.ConditionFalse}
 use Rattle.model.specs.Answers.{variable, after, unless, each}
 use Rattle.model.specs.Values.{half16, mark}
-use Rattle.model.specs.Image.{Tables, trailerOf, tablesOf, variableCount}
-use Rattle.model.specs.Calls.{imageVerdict, parameterCount, started, slotOfType, isParameter, holds, Started, startedAs}
-use Rattle.demands.specs.Statements.{AreBytes}
+use Rattle.model.specs.Image.{Tables, tablesOf}
+use Rattle.model.specs.Calls.{parameterCount, started, slotOfType, isParameter, holds, Started, startedAs}
 use Rattle.demands.specs.Stores.{TypedStore}
+use Rattle.stages.specs.Judging.{Cleared}
 
 -- a parameter gets value number k of those given, any other variable the mark
 unfoldable pub givenTo : ℕ → List ℤ → ℕ → ℤ
@@ -44,13 +44,7 @@ begun x params store = startedAs (valuesVerdict x (started x params)) (started x
 unfoldable pub counted : Tables → List ℤ → List ℤ → Started
 counted x params store = startedAs (countsVerdict x params store) (started x params) store
 
--- an image free of 1 to 9, and its trailer
-pub record Cleared (s : List ℕ) (i : Image) : Type 0 where
-  pub bytes : AreBytes s
-  pub trailer : i ≡ trailerOf s
-  pub passed : imageVerdict s ≡ Accepted
-
--- and a slot for each variable
+-- an image free of 1 to 9, and a slot for each variable
 pub record Slotted (s : List ℕ) (i : Image) (m : List ℤ) : Type 0 where
   pub cleared : Cleared s i
   pub slots : length m ≡ length (tablesOf s .variables)
@@ -58,7 +52,7 @@ pub record Slotted (s : List ℕ) (i : Image) (m : List ℤ) : Type 0 where
 -- and one of its variables
 pub record SlotOf (s : List ℕ) (i : Image) (m : List ℤ) (v : ℕ) : Type 0 where
   pub slotted : Slotted s i m
-  pub inside : v < variableCount i
+  pub inside : v < length (tablesOf s .variables)
 
 -- value number k is there for a parameter
 pub record Given (p k n : ℕ) : Type 0 where

@@ -3,11 +3,13 @@ ghost use mathlib.Core.Path.{_≡_};
 ghost use lib.ListN.{length};
 ghost use Rattle.model.specs.Image.{tablesOf};
 ghost use Rattle.model.specs.Calls.{parameterCount, started, start};
-ghost use Rattle.starting.specs.Starting.{givenTo, rightAt, parametersVerdict, conditionVerdict, valuesVerdict, begun, counted, Cleared, Slotted, SlotOf, Given, Filling, Typed, Filled, Begins};
+ghost use Rattle.stages.specs.Judging.{Cleared};
+ghost use Rattle.starting.specs.Starting.{givenTo, rightAt, parametersVerdict, conditionVerdict, valuesVerdict, begun, counted, Slotted, SlotOf, Given, Filling, Typed, Filled, Begins};
 use expressions::test;
 use image::parameter;
 use image::size;
 use image::trailer;
+use image::variable_count;
 use image::variable_type;
 use model::Image;
 use model::Refusal;
@@ -16,6 +18,7 @@ use model::Variable;
 use model::Verdict;
 use stages::image_verdict;
 use values::of_size;
+use words::copy;
 
 // Half the number of int's values.
 const HALF: u16 = 32768;
@@ -28,7 +31,7 @@ fn parameter_count(image: &[u8], i: Image) -> usize
     requires { ⌜ Cleared (now image) i ⌝ }
     ensures { λ r. ⌜ r ≡ parameterCount (tablesOf (now (image .entry)) .variables) ⌝ }
 {
-    let count = (i.states - i.variables) / 4;
+    let count = variable_count(image, i);
     let mut n: usize = 0;
     let mut v: u16 = 0;
     while v < count {
@@ -51,7 +54,7 @@ fn fill(image: &[u8], i: Image, params: &[i32], work: &mut [i32])
     requires { ⌜ Filling (now image) i (now params) (now work) ⌝ }
     ensures { λ _. ⌜ now (work .exit) ≡ started (tablesOf (now (image .entry))) (now (params .entry)) ⌝ }
 {
-    let count = (i.states - i.variables) / 4;
+    let count = variable_count(image, i);
     let mut k: usize = 0;
     let mut v: u16 = 0;
     while v < count {
@@ -79,7 +82,7 @@ fn parameter_verdict(image: &[u8], i: Image, work: &[i32]) -> Verdict
     requires { ⌜ Slotted (now image) i (now work) ⌝ }
     ensures { λ r. ⌜ r ≡ parametersVerdict (tablesOf (now (image .entry))) (now (work .entry)) ⌝ }
 {
-    let count = (i.states - i.variables) / 4;
+    let count = variable_count(image, i);
     let mut v: u16 = 0;
     while v < count {
         if !right(image, i, work, v) {
@@ -114,17 +117,6 @@ fn values_verdict(image: &[u8], i: Image, work: &[i32]) -> Verdict
     }
 }
 
-fn copy(store: &mut [i32], work: &[i32])
-    requires { ⌜ length (now store) ≡ length (now work) ⌝ }
-    ensures { λ _. ⌜ now (store .exit) ≡ now (work .entry) ⌝ }
-{
-    let mut i = 0;
-    while i < work.len() {
-        store[i] = work[i];
-        i += 1;
-    }
-}
-
 // 15 and 16 on a working copy that its caller lends: a refusal leaves the store alone.
 fn begin_on(image: &[u8], i: Image, params: &[i32], store: &mut [i32], work: &mut [i32]) -> Verdict
     requires { ⌜ Begins (now image) i (now params) (now store) (now work) ⌝ }
@@ -156,7 +148,7 @@ fn count(image: &[u8], i: Image, params: &[i32], store: &mut [i32]) -> Verdict
     requires { ⌜ Cleared (now image) i ⌝ }
     ensures { λ r. ⌜ record { answer = r; store = now (store .exit) } ≡ counted (tablesOf (now (image .entry))) (now (params .entry)) (now (store .entry)) ⌝ }
 {
-    if store.len() != ((i.states - i.variables) / 4) as usize {
+    if store.len() != variable_count(image, i) as usize {
         return Verdict::Refused(Refusal::StoreLength);
     }
     if params.len() != parameter_count(image, i) {

@@ -14,8 +14,8 @@ use Rattle.image.proofs.Laid.{laid, rows-count}
 use Rattle.demands.specs.Statements.{AreBytes}
 use Rattle.demands.proofs.Whole.{whole}
 use Rattle.machine.proofs.Words.{exec-words, reads-action}
-use Rattle.stepping.specs.Stepping.{Imaged, runVerdict, ran}
-use Rattle.stepping.proofs.Slots.{located}
+use Rattle.stepping.specs.Stepping.{runVerdict, ran}
+use Rattle.image.proofs.Accepted.{accepted-located}
 use Rattle.stepping.proofs.Steps.{Left, left-over}
 use Rattle.stepping.proofs.Trying.{root-of}
 
@@ -93,8 +93,7 @@ module _ (s : List ℕ) (q : State) (m : List ℤ) (script : List ℕ) (budget :
   moved-words b k e =
       let v = moves k e in
       let a = after-both (imageVerdict s) (runVerdict (tablesOf s) q m budget label) (v .passed) in
-      let i : Imaged s (trailerOf s) = record { bytes = b; passed = a .0; trailer = refl } in
-      let l = located i in
+      let l = accepted-located refl (a .0) in
       let f = left-over s q m budget label (a .1) in
       let w = exec-words (tablesOf s) (act (tablesOf s) (q .0)) script (record { store = m; words = 0; left = budget; label = ε })
       (reads-action (tablesOf s) (whole s b (a .0)) (omega (arith, rows-count l, laid l .rowsMost)) _ (root-of s (a .0) (q .0) (f .state))) in

@@ -4,7 +4,7 @@ use Prim.Native.Nat.{ℕ, _+_, _-_, _/_, _^_, _≤_, _<_}
 use native.Mathlib.Omega.{arith}
 use lib.{Dec.eqb, Dec.leb, Dec.ltb, IntN.ℤ, IntN.pos, ListN.length, ListN.getD, Signed.mag}
 use mir.{Syntax.w32, Val.toZ, Val.ofZ}
-use borrow.Author.Tests.{lt-ltb, le-ltb, lt-leb, le-leb, eq-eqb, ne-eqb, not-true}
+use borrow.Author.Tests.{lt-ltb, le-ltb, lt-leb, le-leb, eq-eqb, ne-eqb, not-true, not-false}
 use Rattle.model.specs.declared.{Image.Image, State.State, Verdict.Verdict, Verdict.the-variants.Accepted, Verdict.the-variants.Refused, Refusal.Refusal, Refusal.the-variants.NoState, Refusal.the-variants.StoreLength, Refusal.the-variants.SlotValue, Refusal.the-variants.LabelShort, Refusal.the-variants.BudgetOver}
 use Rattle.model.specs.Answers.{variable, after, unless, lowest}
 use Rattle.model.proofs.Order.{after-accepted, after-refused, lowest-full, lowest-pass, each-full, each-refuses}
@@ -14,15 +14,14 @@ use Rattle.model.specs.Run.{slot}
 use Rattle.model.specs.Calls.{slotOfType, slotFits}
 use Rattle.model.proofs.Values.{same-refl, same-ne}
 use Rattle.model.proofs.Passed.{passed}
-use Rattle.image.specs.Located.{Located, VariableOf, TypeOf}
-use Rattle.image.proofs.Laid.{laid, types-count, variables-count, states-count}
+use Rattle.image.specs.Located.{VariableOf, TypeOf}
+use Rattle.image.proofs.Laid.{types-count, variables-count}
 use Rattle.demands.proofs.Whole.{entry-of}
 use Rattle.values.proofs.Held.{held, held-is}
 use Rattle.expressions.proofs.Operated.{getD-any}
-use Rattle.stepping.specs.Stepping.{Imaged, Slotted, SlotIn, slotsVerdict, roomVerdict, runVerdict}
-
-pub located : {s : List ℕ} {i : Image} → Imaged s i → Located s i
-located {s} h = let p = passed s (h .passed) in record { trailer = h .trailer; long = p .long; marked = p .marked; starts = rw (h .trailer) (p .starts) }
+use Rattle.stages.specs.Judging.{Cleared}
+use Rattle.stages.proofs.Cleared.{located}
+use Rattle.stepping.specs.Stepping.{Slotted, SlotIn, slotsVerdict, roomVerdict, runVerdict}
 
 module _ {s : List ℕ} {i : Image} {m : List ℤ} {v : ℕ} (h : SlotIn s i m v) where
   inside : v < length (tablesOf s .variables)
@@ -30,13 +29,13 @@ module _ {s : List ℕ} {i : Image} {m : List ℤ} {v : ℕ} (h : SlotIn s i m v
 
   pub variable-there : VariableOf s i v
   variable-there =
-      let l = located (h .slotted .imaged) in
+      let l = located (h .slotted .cleared) in
       record { located = l; inside = omega (arith, inside, variables-count l) }
 
   pub type-there : {t : ℕ} → t ≡ entryOf (tablesOf s) (variable v) .type → TypeOf s i t
   type-there e =
-      let l = located (h .slotted .imaged) in
-      let f = entry-of (tablesOf s) (passed s (h .slotted .imaged .passed) .free) v inside in
+      let l = located (h .slotted .cleared) in
+      let f = entry-of (tablesOf s) (passed s (h .slotted .cleared .passed) .free) v inside in
       record { located = l; inside = omega (arith, e, f .type, types-count l) }
 
   held-slot : {z : ℤ} → z ≡ getD m v (pos 0) → slot (tablesOf s) m (variable v) ≡ z
@@ -58,22 +57,6 @@ module _ {s : List ℕ} {i : Image} {m : List ℤ} {v : ℕ} (h : SlotIn s i m v
       let q : same (slot (tablesOf s) m (variable v)) (mark half16) ≡ false = rw (held-slot e) d in
       l ∙ rw (held-is z b, k, g, ← held-slot e) (sym (ap (λ (y : Bool). y || slotOfType (tablesOf s) m v) q))
 
-pub count-is : {s : List ℕ} {i : Image} → Imaged s i → (i .states - i .variables) / 4 ≡ length (tablesOf s .variables)
-count-is h = sym (variables-count (located h))
-
-pub variables-order : {s : List ℕ} {i : Image} → Imaged s i → i .variables ≤ i .states
-variables-order h = omega (arith, laid (located h) .states)
-
-pub states-order : {s : List ℕ} {i : Image} → Imaged s i → i .states ≤ i .rows
-states-order h = omega (arith, laid (located h) .rows)
-
-pub states-are : {s : List ℕ} {i : Image} → Imaged s i → (i .rows - i .states) / 2 ≡ length (tablesOf s .states)
-states-are h = sym (states-count (located h))
-
-not-false : (b : Bool) → not b ≡ false → b ≡ true
-not-false true e = refl
-not-false false e = sym e
-
 -- the loop over the slots
 module _ {s : List ℕ} {i : Image} {m : List ℤ} (h : Slotted s i m) where
   pub none-yet : lowest (slotFits (tablesOf s) m) 0 ≡ 0
@@ -82,37 +65,35 @@ module _ {s : List ℕ} {i : Image} {m : List ℤ} (h : Slotted s i m) where
   pub one-more : (v : ℕ) {b : Bool} → lowest (slotFits (tablesOf s) m) v ≡ v → b ≡ slotFits (tablesOf s) m v → not b ≡ false → lowest (slotFits (tablesOf s) m) (v + 1) ≡ v + 1
   one-more v {b} e f t = lowest-pass (slotFits (tablesOf s) m) v e (sym f ∙ not-false b t)
 
-  pub wrong-here : (v : ℕ) {b : Bool} → v < (i .states - i .variables) / 4 → lowest (slotFits (tablesOf s) m) v ≡ v → b ≡ slotFits (tablesOf s) m v → not b ≡ true
+  pub wrong-here : (v : ℕ) {b : Bool} → v < length (tablesOf s .variables) → lowest (slotFits (tablesOf s) m) v ≡ v → b ≡ slotFits (tablesOf s) m v → not b ≡ true
       → Refused (SlotValue (variable v)) ≡ slotsVerdict (tablesOf s) m
   wrong-here v {b} l e f t =
-      sym (each-refuses (slotFits (tablesOf s) m) (length (tablesOf s .variables)) _ v e (omega (arith, l, count-is (h .imaged))) (sym f ∙ not-true b t))
+      sym (each-refuses (slotFits (tablesOf s) m) (length (tablesOf s .variables)) _ v e l (sym f ∙ not-true b t))
 
-  pub all-fit : (v : ℕ) → v ≡ (i .states - i .variables) / 4 → lowest (slotFits (tablesOf s) m) v ≡ v → Accepted ≡ slotsVerdict (tablesOf s) m
-  all-fit v q e =
-      let n : v ≡ length (tablesOf s .variables) = q ∙ count-is (h .imaged) in
-      sym (each-full (slotFits (tablesOf s) m) (length (tablesOf s .variables)) _ (rw (← n) e))
+  pub all-fit : (v : ℕ) → v ≡ length (tablesOf s .variables) → lowest (slotFits (tablesOf s) m) v ≡ v → Accepted ≡ slotsVerdict (tablesOf s) m
+  all-fit v n e = sym (each-full (slotFits (tablesOf s) m) (length (tablesOf s .variables)) _ (rw (← n) e))
 
 -- 17 to 20
-module _ {s : List ℕ} {i : Image} (h : Imaged s i) (q : State) (m : List ℤ) (budget : ℕ) (label : List ℤ) where
-  pub no-state : (i .rows - i .states) / 2 ≤ q .0 → Refused NoState ≡ runVerdict (tablesOf s) q m budget label
+module _ {s : List ℕ} {i : Image} (h : Cleared s i) (q : State) (m : List ℤ) (budget : ℕ) (label : List ℤ) where
+  pub no-state : length (tablesOf s .states) ≤ q .0 → Refused NoState ≡ runVerdict (tablesOf s) q m budget label
   no-state l =
-      sym (after-refused _ _ NoState (ap (λ (b : Bool). unless b NoState) (le-ltb (q .0) (length (tablesOf s .states)) (omega (arith, l, states-are h)))))
+      sym (after-refused _ _ NoState (ap (λ (b : Bool). unless b NoState) (le-ltb (q .0) (length (tablesOf s .states)) l)))
 
-  module _ (l : q .0 < (i .rows - i .states) / 2) where
+  module _ (l : q .0 < length (tablesOf s .states)) where
     state-passed : unless (ltb (q .0) (length (tablesOf s .states))) NoState ≡ Accepted
-    state-passed = ap (λ (b : Bool). unless b NoState) (lt-ltb (q .0) (length (tablesOf s .states)) (omega (arith, l, states-are h)))
+    state-passed = ap (λ (b : Bool). unless b NoState) (lt-ltb (q .0) (length (tablesOf s .states)) l)
 
-    pub store-wrong : (length m ≡ (i .states - i .variables) / 4 → ⊥) → Refused StoreLength ≡ runVerdict (tablesOf s) q m budget label
+    pub store-wrong : (length m ≡ length (tablesOf s .variables) → ⊥) → Refused StoreLength ≡ runVerdict (tablesOf s) q m budget label
     store-wrong f =
-        let e = ne-eqb (length m) (length (tablesOf s .variables)) (λ g. f (g ∙ sym (count-is h))) in
+        let e = ne-eqb (length m) (length (tablesOf s .variables)) f in
         sym (after-accepted _ _ state-passed ∙ after-refused _ _ StoreLength (ap (λ (b : Bool). unless b StoreLength) e))
 
-    module _ (e : length m ≡ (i .states - i .variables) / 4) where
+    module _ (e : length m ≡ length (tablesOf s .variables)) where
       pub slotted : Slotted s i m
-      slotted = record { imaged = h; size = e ∙ count-is h }
+      slotted = record { cleared = h; size = e }
 
       store-passed : unless (eqb (length m) (length (tablesOf s .variables))) StoreLength ≡ Accepted
-      store-passed = ap (λ (b : Bool). unless b StoreLength) (eq-eqb (length m) (length (tablesOf s .variables)) (e ∙ count-is h))
+      store-passed = ap (λ (b : Bool). unless b StoreLength) (eq-eqb (length m) (length (tablesOf s .variables)) e)
 
       to-slots : runVerdict (tablesOf s) q m budget label ≡ after (slotsVerdict (tablesOf s) m) (roomVerdict budget label)
       to-slots = after-accepted _ _ state-passed ∙ after-accepted _ _ store-passed

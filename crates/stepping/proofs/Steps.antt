@@ -24,8 +24,9 @@ use Rattle.expressions.specs.Ready.{Ready}
 use Rattle.machine.proofs.Words.{exec-words, reads-action}
 use Rattle.actions.specs.declared.{Ran.Ran}
 use Rattle.actions.specs.State.{resultOf}
-use Rattle.stepping.specs.Stepping.{Imaged, slotsVerdict, roomVerdict, runVerdict, ran, Trying, Steps, Runs}
-use Rattle.stepping.proofs.Slots.{located}
+use Rattle.stepping.specs.Stepping.{slotsVerdict, roomVerdict, runVerdict, ran, Trying, Steps, Runs}
+use Rattle.stages.specs.Judging.{Cleared}
+use Rattle.stages.proofs.Cleared.{located}
 use Rattle.stepping.proofs.Trying.{root}
 
 -- what 17 to 20 leave
@@ -56,8 +57,8 @@ module _ {s : List ℕ} {i : Image} {q : State} {m label work values : List ℤ}
   pub to-try : (n : List ℤ) (vs : List ℤ) → n ≡ m → length vs ≡ 8 → Trying s i (q .0) n vs budget
   to-try n vs e l =
       record {
-        imaged = h .imaged;
-        ready = record { bytes = h .imaged .bytes; passed = h .imaged .passed; store = rw e (leaves .store) };
+        cleared = h .cleared;
+        ready = record { bytes = h .cleared .bytes; passed = h .cleared .passed; store = rw e (leaves .store) };
         state = leaves .state;
         room = l;
         few = leaves .few;
@@ -73,12 +74,12 @@ module _ {s : List ℕ} {i : Image} {q : State} {m label work values : List ℤ}
     units-fit = rw (ap (λ (r : Res). r .st .left) f) (exec-left (tablesOf s) _ script _)
 
     few-rows : length (tablesOf s .rows) ≤ 2048
-    few-rows = let l = located (h .imaged) in omega (arith, rows-count l, laid l .rowsMost)
+    few-rows = let l = located (h .cleared) in omega (arith, rows-count l, laid l .rowsMost)
 
     pub words-fit : p .run .words < 2 ^ 32
     unfolding attempt
     words-fit =
-        let w = exec-words (tablesOf s) (act (tablesOf s) (q .0)) script (record { store = n; words = 0; left = budget; label = ε }) (reads-action (tablesOf s) (whole s (h .imaged .bytes) (h .imaged .passed)) (omega (arith, few-rows)) _ kind) in
+        let w = exec-words (tablesOf s) (act (tablesOf s) (q .0)) script (record { store = n; words = 0; left = budget; label = ε }) (reads-action (tablesOf s) (whole s (h .cleared .bytes) (h .cleared .passed)) (omega (arith, few-rows)) _ kind) in
         let g : p .run .words ≡ exec (tablesOf s) (act (tablesOf s) (q .0)) script (record { store = n; words = 0; left = budget; label = ε }) .st .words = ap (λ (r : Res). r .st .words) f in
         omega (arith, w, g, leaves .few)
 
@@ -111,25 +112,15 @@ module _ (s : List ℕ) (q : State) (store : List ℤ) (script : List ℕ) (budg
     step-runs g k = k ∙ sym (by-verdict Accepted (verdict-is ∙ after-accepted (imageVerdict s) _ (sym f ∙ e) ∙ g))
 
 -- what is lent and made
-pub located-by : (s : List ℕ) → imageVerdict s ≡ Accepted → Located s (trailerOf s)
-located-by s e = let p = passed s e in record { trailer = refl; long = p .long; marked = p .marked; starts = p .starts }
-
-pub image-long : (s : List ℕ) {v : Verdict} → v ≡ imageVerdict s → v ≡ Accepted → 16 ≤ length s
-unfolding lengthFits
-image-long s f e = omega (arith, leb-true 38 (length s) (both-true (leb 38 (length s)) _ (passed s (sym f ∙ e) .long) .0))
-
-pub to-imaged : {s : List ℕ} {i : Image} {v : Verdict} → ((j : ℕ) → getD s j 0 < 256) → v ≡ imageVerdict s → v ≡ Accepted → i ≡ trailerOf s → Imaged s i
-to-imaged b f e t = record { bytes = record { each = b }; passed = sym f ∙ e; trailer = t }
-
-pub to-runs : {s : List ℕ} {i : Image} {q : State} {m label : List ℤ} {budget : ℕ} {w : Verdict} → Imaged s i → w ≡ runVerdict (tablesOf s) q m budget label → w ≡ Accepted
+pub to-runs : {s : List ℕ} {i : Image} {q : State} {m label : List ℤ} {budget : ℕ} {w : Verdict} → Cleared s i → w ≡ runVerdict (tablesOf s) q m budget label → w ≡ Accepted
     → Runs s i q m budget label
-to-runs h f e = record { imaged = h; passed = sym f ∙ e }
+to-runs h f e = record { cleared = h; passed = sym f ∙ e }
 
 pub store-few : {s : List ℕ} {i : Image} {q : State} {m label : List ℤ} {budget : ℕ} → Runs s i q m budget label → length m ≤ 64
 store-few {s} {i} {q} {m} {label} {budget} h =
-    let l = located (h .imaged) in
+    let l = located (h .cleared) in
     omega (arith, left-over s q m budget label (h .passed) .store .size, variables-count l, laid l .variablesMost)
 
 pub to-steps : {s : List ℕ} {i : Image} {q : State} {m label : List ℤ} {budget : ℕ} (work values : List ℤ) → Runs s i q m budget label → length work ≡ length m → length values ≡ 8
     → Steps s i q m budget label work values
-to-steps work values h c r = record { imaged = h .imaged; passed = h .passed; copy = c; room = r }
+to-steps work values h c r = record { cleared = h .cleared; passed = h .passed; copy = c; room = r }

@@ -20,7 +20,7 @@ use Rattle.machine.proofs.Words.{exec-words, reads-action}
 use Rattle.actions.specs.declared.{Run.Run, Ran.Ran}
 use Rattle.actions.specs.State.{stateOf, resultOf}
 use Rattle.stepping.specs.Stepping.{Trying}
-use Rattle.stepping.proofs.Slots.{located}
+use Rattle.stages.proofs.Cleared.{located}
 
 -- a state's row is an action
 pub root-of : (s : List ℕ) → imageVerdict s ≡ Accepted → (q : ℕ) → q < length (tablesOf s .states) → isKind (tablesOf s) action (getD (tablesOf s .states) q none) ≡ true
@@ -31,14 +31,14 @@ root-of s e q h =
 module _ {s : List ℕ} {i : Image} {q : ℕ} {m values : List ℤ} {budget : ℕ} (h : Trying s i q m values budget) where
   pub state-there : StateOf s i q
   state-there =
-      let l = located (h .imaged) in
+      let l = located (h .cleared) in
       record { located = l; inside = omega (arith, h .state, states-count l) }
 
   pub root : isKind (tablesOf s) action (getD (tablesOf s .states) q none) ≡ true
-  root = root-of s (h .imaged .passed) q (h .state)
+  root = root-of s (h .cleared .passed) q (h .state)
 
   pub runs-there : {r : ℕ} → r ≡ getD (tablesOf s .states) q none → Running action s (i .rows) r m values
-  runs-there e = record { ready = h .ready; start = ap (λ (j : Image). j .rows) (h .imaged .trailer); kind = rw e root; room = omega (arith, h .room) }
+  runs-there e = record { ready = h .ready; start = ap (λ (j : Image). j .rows) (h .cleared .trailer); kind = rw e root; room = omega (arith, h .room) }
 
   pub tries : {r : ℕ} {p : Res} (script : List ℕ) → r ≡ getD (tablesOf s .states) q none
       → p ≡ exec (tablesOf s) (actionAt (tablesOf s) r) script (stateOf (record { words = 0; left = budget; spoken = false; gate = 0; count = 0 }) m values)

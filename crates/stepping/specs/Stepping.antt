@@ -5,20 +5,14 @@ use lib.{Dec.eqb, Dec.leb, Dec.ltb, IntN.ℤ, ListN.length, ListN.getD}
 use Rattle.model.specs.declared.{Image.Image, State.State, Verdict.Verdict, Verdict.the-variants.Accepted, Refusal.the-variants.StoreLength, Refusal.the-variants.NoState, Refusal.the-variants.SlotValue, Refusal.the-variants.LabelShort, Refusal.the-variants.BudgetOver}
 use Rattle.model.specs.Limits.{limits}
 use Rattle.model.specs.Answers.{variable, after, unless, each}
-use Rattle.model.specs.Image.{Tables, none, trailerOf, tablesOf}
-use Rattle.model.specs.Calls.{imageVerdict, slotFits, StepDone, movedAs, steppedAs, attempt}
-use Rattle.demands.specs.Statements.{AreBytes}
+use Rattle.model.specs.Image.{Tables, none, tablesOf}
+use Rattle.model.specs.Calls.{slotFits, StepDone, movedAs, steppedAs, attempt}
 use Rattle.expressions.specs.Ready.{Ready}
+use Rattle.stages.specs.Judging.{Cleared}
 
--- an image free of 1 to 9, with its trailer
-pub record Imaged (s : List ℕ) (i : Image) : Type 0 where
-  pub bytes : AreBytes s
-  pub passed : imageVerdict s ≡ Accepted
-  pub trailer : i ≡ trailerOf s
-
--- and a store with a slot for each variable
+-- an image free of 1 to 9, and a store with a slot for each variable
 pub record Slotted (s : List ℕ) (i : Image) (m : List ℤ) : Type 0 where
-  pub imaged : Imaged s i
+  pub cleared : Cleared s i
   pub size : length m ≡ length (tablesOf s .variables)
 
 -- and a slot of it
@@ -47,7 +41,7 @@ ran x q store script budget label = movedAs (attempt x (q .0) store script budge
 
 -- a step that runs, with a working copy of its store and room for a label's values
 pub record Trying (s : List ℕ) (i : Image) (q : ℕ) (m values : List ℤ) (budget : ℕ) : Type 0 where
-  pub imaged : Imaged s i
+  pub cleared : Cleared s i
   pub ready : Ready s m
   pub state : q < length (tablesOf s .states)
   pub room : length values ≡ 8
@@ -55,12 +49,12 @@ pub record Trying (s : List ℕ) (i : Image) (q : ℕ) (m values : List ℤ) (bu
 
 -- a step that nothing refuses, with a working copy and room for a label's values
 pub record Steps (s : List ℕ) (i : Image) (q : State) (store : List ℤ) (budget : ℕ) (label work values : List ℤ) : Type 0 where
-  pub imaged : Imaged s i
+  pub cleared : Cleared s i
   pub passed : runVerdict (tablesOf s) q store budget label ≡ Accepted
   pub copy : length work ≡ length store
   pub room : length values ≡ 8
 
 -- the same without them
 pub record Runs (s : List ℕ) (i : Image) (q : State) (store : List ℤ) (budget : ℕ) (label : List ℤ) : Type 0 where
-  pub imaged : Imaged s i
+  pub cleared : Cleared s i
   pub passed : runVerdict (tablesOf s) q store budget label ≡ Accepted

@@ -3,14 +3,16 @@ ghost use mathlib.Core.Path.{_≡_};
 ghost use Rattle.model.specs.Image.{tablesOf};
 ghost use Rattle.model.specs.Calls.{slotFits, attempt, step};
 ghost use Rattle.actions.specs.State.{resultOf};
-ghost use Rattle.stepping.specs.Stepping.{Imaged, Slotted, SlotIn, slotsVerdict, runVerdict, ran, Trying, Steps, Runs};
+ghost use Rattle.stages.specs.Judging.{Cleared};
+ghost use Rattle.stepping.specs.Stepping.{Slotted, SlotIn, slotsVerdict, runVerdict, ran, Trying, Steps, Runs};
 use actions::Ran;
 use actions::Run;
-use finishing::copy;
 use finishing::finish;
 use image::size;
+use image::state_count;
 use image::state_row;
 use image::trailer;
+use image::variable_count;
 use image::variable_type;
 use machine::run_action;
 use model::Image;
@@ -24,6 +26,7 @@ use told::outcome;
 use told::put;
 use told::taken;
 use values::of_size;
+use words::copy;
 
 // Half the number of int's values.
 const HALF: u16 = 32768;
@@ -48,7 +51,7 @@ fn slots_verdict(image: &[u8], i: Image, store: &[i32]) -> Verdict
     requires { ⌜ Slotted (now image) i (now store) ⌝ }
     ensures { λ r. ⌜ r ≡ slotsVerdict (tablesOf (now (image .entry))) (now (store .entry)) ⌝ }
 {
-    let n = (i.states - i.variables) / 4;
+    let n = variable_count(image, i);
     let mut v: u16 = 0;
     while v < n {
         if !slot_fits(image, i, store, v) {
@@ -68,13 +71,13 @@ fn run_verdict(
     budget: u32,
     label: &[i32],
 ) -> Verdict
-    requires { ⌜ Imaged (now image) i ⌝ }
+    requires { ⌜ Cleared (now image) i ⌝ }
     ensures { λ r. ⌜ r ≡ runVerdict (tablesOf (now (image .entry))) q (now (store .entry)) budget (now (label .entry)) ⌝ }
 {
-    if (i.rows - i.states) / 2 <= q.0 {
+    if state_count(image, i) <= q.0 {
         return Verdict::Refused(Refusal::NoState);
     }
-    if store.len() != ((i.states - i.variables) / 4) as usize {
+    if store.len() != variable_count(image, i) as usize {
         return Verdict::Refused(Refusal::StoreLength);
     }
     let v = slots_verdict(image, i, store);

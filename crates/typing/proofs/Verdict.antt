@@ -7,13 +7,12 @@ use lib.{Dec.eqb, Dec.ltb, ListN.length}
 use borrow.Author.Tests.{eq-eqb, ne-eqb}
 use Rattle.model.specs.declared.{Image.Image, Verdict.the-variants.Accepted, Verdict.the-variants.Refused, Refusal.the-variants.Typing}
 use Rattle.model.specs.Answers.{row, lowest}
-use Rattle.model.specs.Image.{Tables, bool, tablesOf, rowCount}
+use Rattle.model.specs.Image.{Tables, bool, tablesOf}
 use Rattle.model.specs.Rows.{expression, isKind, isRoot}
 use Rattle.model.specs.Typing.{typed}
 use Rattle.model.proofs.Rows.{both-true}
 use Rattle.model.proofs.Order.{lowest-pass, each-full, each-refuses}
-use Rattle.image.specs.Located.{Rooted}
-use Rattle.image.proofs.Laid.{rows-count, condition-is}
+use Rattle.image.proofs.Laid.{condition-is}
 use Rattle.typing.specs.Rules.{typingVerdict, rowTyped, expressionType, OfKind, RootedRow}
 
 -- the initial condition is an expression
@@ -59,29 +58,28 @@ module _ {s : List ℕ} {i : Image} {r : ℕ} (f : RootedRow s i r) where
       sym (typed-by x r
       ∙ rw (ne-eqb r (x .condition) (λ e. n (e ∙ condition-is (f .rooted .formed .located)))) (and-true (rowTyped x r)))
 
--- the rows before r pass
+-- the rows before r pass, of n rows in all
 pub record Passing (s : List ℕ) (n r : ℕ) : Type 0 where
+  pub count : n ≡ length (tablesOf s .rows)
   pub inside : r ≤ n
   pub passing : lowest (typed (tablesOf s)) r ≡ r
 
-pub none-yet : (s : List ℕ) (n : ℕ) → Passing s n 0
+pub none-yet : {s : List ℕ} {n : ℕ} → n ≡ length (tablesOf s .rows) → Passing s n 0
 unfolding lowest
-none-yet s n = record { inside = omega arith; passing = refl }
+none-yet e = record { count = e; inside = omega arith; passing = refl }
 
 pub one-more : {s : List ℕ} {n r : ℕ} → Passing s n r → r < n → typed (tablesOf s) r ≡ true → Passing s n (r + 1)
-one-more {s} {n} {r} p h e = record { inside = omega arith; passing = lowest-pass (typed (tablesOf s)) r (p .passing) e }
+one-more {s} {n} {r} p h e = record { count = p .count; inside = omega arith; passing = lowest-pass (typed (tablesOf s)) r (p .passing) e }
 
-module _ {s : List ℕ} {i : Image} (f : Rooted s i) where
-  pub refused-at : {r : ℕ} → Passing s (rowCount i) r → r < rowCount i → typed (tablesOf s) r ≡ false
-      → Refused (Typing (row r)) ≡ typingVerdict (tablesOf s)
-  unfolding typingVerdict
-  refused-at {r} p h e =
-      let x = tablesOf s in
-      sym (each-refuses (typed x) (length (x .rows)) (λ k. Typing (row k)) r (p .passing) (rw (rows-count (f .formed .located)) h) e)
+pub refused-at : {s : List ℕ} {n r : ℕ} → Passing s n r → r < n → typed (tablesOf s) r ≡ false → Refused (Typing (row r)) ≡ typingVerdict (tablesOf s)
+unfolding typingVerdict
+refused-at {s} {n} {r} p h e =
+    let x = tablesOf s in
+    sym (each-refuses (typed x) (length (x .rows)) (λ k. Typing (row k)) r (p .passing) (omega (arith, p .count)) e)
 
-  pub accepted : {r : ℕ} → Passing s (rowCount i) r → rowCount i ≤ r → Accepted ≡ typingVerdict (tablesOf s)
-  unfolding typingVerdict
-  accepted {r} p h =
-      let x = tablesOf s in
-      let e : r ≡ length (x .rows) = rw (rows-count (f .formed .located)) (omega (arith, p .inside)) in
-      sym (each-full (typed x) (length (x .rows)) (λ k. Typing (row k)) (rw e at (p .passing)))
+pub accepted : {s : List ℕ} {n r : ℕ} → Passing s n r → n ≤ r → Accepted ≡ typingVerdict (tablesOf s)
+unfolding typingVerdict
+accepted {s} {n} {r} p h =
+    let x = tablesOf s in
+    let e : r ≡ length (x .rows) = omega (arith, p .count, p .inside) in
+    sym (each-full (typed x) (length (x .rows)) (λ k. Typing (row k)) (rw e at (p .passing)))

@@ -6,6 +6,7 @@ ghost use Rattle.model.specs.Typing.{typed};
 ghost use Rattle.image.specs.Located.{Rooted};
 ghost use Rattle.typing.specs.Rules.{typingVerdict, rowTyped, expressionType, conditionType, patternType, getsTyped, ofTypesTyped, armsTyped, rangeTyped, operandOf, resultOf, takesTypes, Operator, FormedRow, OfKind, OrNone, RootedRow};
 use image::fields;
+use image::row_count;
 use image::variable_type;
 use model::Image;
 use model::Refusal;
@@ -220,7 +221,7 @@ pub fn typing_verdict(image: &[u8], i: Image) -> Verdict
     requires { ⌜ Rooted (now image) i ⌝ }
     ensures { λ v. ⌜ v ≡ typingVerdict (tablesOf (now (image .entry))) ⌝ }
 {
-    let n = (i.length - 16 - i.rows) / 8;
+    let n = row_count(image, i);
     let mut r = 0;
     while r < n {
         if !typed(image, i, r) {

@@ -1,13 +1,14 @@
 -- Words read from bytes and written to them. Assumes nothing.
 use mathlib.Core.{Path._≡_, Path.refl, Path.sym, Path.ap, Path._∙_, Bool.true, Bool.false, List.List, List.[], List._∷_, List._++_, List.map}
 use Prim.Native.Nat.{ℕ, zero, suc, _+_, _-_, _*_, _/_, _^_, _<_, _≤_}
-use native.Mathlib.{Omega.arith, Numerals.add-one, Nat.zero-add, Nat.add-zero, Nat.suc-add, Nat.pow-suc, Nat.mul-assoc, Nat.mul-comm, Nat.one-mul}
-use lib.{IntN.ℤ, IntN.pos, IntN.negsuc, Signed.mag, Signed.ltZ, ListN.length, ListN.getD, ListN.set, ListN.take, ListN.drop, ListN.length-map, ListN.List·getD-map, Seq.paste-suc}
+use native.Mathlib.{Omega.arith, Nat.zero-add, Nat.add-zero, Nat.suc-add, Nat.pow-suc, Nat.mul-assoc, Nat.mul-comm, Nat.one-mul}
+use lib.{IntN.ℤ, IntN.pos, IntN.negsuc, Signed.mag, Signed.ltZ, ListN.length, ListN.getD, ListN.set, ListN.take, ListN.drop, ListN.length-map, ListN.List·getD-map}
 use borrow.Author.Tests.{ltb-true}
 use Rattle.model.specs.Values.{round}
 use Rattle.model.specs.Bytes.{numberOf, numberAt, halfAt, bytesOf, signed, unsigned, wordsOf, wordAt, signedWords, written}
 use Rattle.model.proofs.Bytes.{length-table, getD-table, numberAt-suc}
 use Rattle.values.proofs.Held.{held, held-is}
+use Rattle.words.proofs.Copied.{copied-step}
 use Rattle.words.proofs.Written.{written-step}
 
 -- a number of m + k bytes, by its m lowest and the others
@@ -51,17 +52,12 @@ getD-signedWords s i h =
     List·getD-map (signed (2 ^ 31)) (wordsOf 4 s) i 0
     ∙ ap (signed (2 ^ 31)) (getD-table (λ j. numberAt 4 s (4 * j)) 0 (length s / 4) i 0 h ∙ ap (λ (j : ℕ). numberAt 4 s (4 * j)) (zero-add i))
 
--- one more element copied
-copy-step : {A : Type 0} (l w₀ w : List A) (i : ℕ) (d : A) → i < length w₀ → i < length l → w ≡ take i l ++ drop i w₀
-    → set w i (getD l i d) ≡ take (i + 1) l ++ drop (i + 1) w₀
-copy-step l w₀ w i d p q e = rw (e, add-one) (simp zero-add at (paste-suc w₀ 0 l i d (rw zero-add p) q))
-
 -- one more word read
 pub read-step : (s : List ℕ) (w₀ w : List ℤ) (i : ℕ) → i < length w₀ → 4 * i + 4 ≤ length s → w ≡ take i (signedWords s) ++ drop i w₀
     → set w i (wordAt s i) ≡ take (i + 1) (signedWords s) ++ drop (i + 1) w₀
 read-step s w₀ w i p q e =
     let n : i < length s / 4 = omega arith in
-    rw (← getD-signedWords s i n) (copy-step (signedWords s) w₀ w i (pos 0) p (rw length-signedWords n) e)
+    rw (← getD-signedWords s i n) (copied-step (pos 0) (signedWords s) w₀ w i (rw length-signedWords n) p e)
 
 take-map : {A B : Type 0} (f : A → B) (i : ℕ) (l : List A) → take i (map f l) ≡ map f (take i l)
 take-map f zero l = refl

@@ -1,4 +1,4 @@
-// Little-endian numbers in byte slices.
+// Little-endian numbers in byte slices; words copied.
 ghost use mathlib.Core.Path.{_≡_};
 ghost use mathlib.Core.List.{_++_, map};
 ghost use Prim.Native.Nat.{_+_, _*_, _^_, _<_, _≤_};
@@ -91,6 +91,18 @@ pub fn put_words(s: &mut [u8], words: &[i32], count: usize)
     let mut i = 0;
     while i < count {
         put(s, 4 * i, 4, unsigned(words[i]) as u64);
+        i += 1;
+    }
+}
+
+// Copies as many words.
+pub fn copy(to: &mut [i32], from: &[i32])
+    requires { ⌜ length (now to) ≡ length (now from) ⌝ }
+    ensures { λ _. ⌜ now (to .exit) ≡ now (from .entry) ⌝ }
+{
+    let mut i = 0;
+    while i < from.len() {
+        to[i] = from[i];
         i += 1;
     }
 }

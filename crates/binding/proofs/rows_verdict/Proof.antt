@@ -19,7 +19,7 @@ abbrev μ-loop : tie.MeasureT-loop
 μ-loop image i uses defs allowed n r₀ r = n - r
 
 parameters-requires : tie.Need-parameters-requires Inv-loop μ-loop
-parameters-requires c κs = c .before .before .before .pre .rooted
+parameters-requires c κs = c .before .before .before .pre .rooted .formed
 
 cast-n : tie.Need-cast-n Inv-loop μ-loop
 cast-n c = omega (arith, rows-few (c .before .before .before .before .pre))

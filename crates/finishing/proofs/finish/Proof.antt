@@ -5,7 +5,6 @@ use Rattle.finishing.proofs.finish.Tie as tie
 use Rattle.finishing.proofs.finish.Reads as reads
 use Rattle.finishing.proofs.finish.Lts as lts
 use Rattle.actions.proofs.blocked_at.Reads as blocked-at-reads
-use Rattle.finishing.proofs.copy.Reads as copy-reads
 use Rattle.finishing.proofs.put_label.Reads as put-label-reads
 
 enum-told : tie.Need-enum-told

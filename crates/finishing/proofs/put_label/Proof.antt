@@ -5,7 +5,7 @@ use native.Mathlib.Omega.{arith}
 use lib.ListN.{length, take, drop, length-set}
 use Rattle.model.specs.Run.{labelWords}
 use Rattle.actions.specs.State.{labelOf}
-use Rattle.finishing.proofs.Copied.{copied-step, copied-front}
+use Rattle.words.proofs.Copied.{copied-held, copied-front}
 use Rattle.finishing.proofs.Words.{words-ten}
 use Rattle.finishing.proofs.put_label.Statement.{statement}
 use Rattle.finishing.proofs.put_label.Tie as tie
@@ -42,7 +42,7 @@ loop-again c =
     let o = c .before .before in
     let a = c .before .before .before in
     let ten = words-ten (a .args .run) (a .args .values .now) (a .pre .1) in
-    (omega arith, length-set (o .loop .label) (o .loop .k) _ ∙ o .loop .inv .1, copied-step (labelWords (labelOf (a .args .run) (a .args .values .now))) (a .args .label .now) (o .loop .label) (o .loop .k) (omega arith) (omega arith) (o .loop .inv .2) (c .label-word .ok) (c .label-word .ensures))
+    (omega arith, length-set (o .loop .label) (o .loop .k) _ ∙ o .loop .inv .1, copied-held (labelWords (labelOf (a .args .run) (a .args .values .now))) (a .args .label .now) (o .loop .label) (o .loop .k) (omega arith) (omega arith) (o .loop .inv .2) (c .label-word .ok) (c .label-word .ensures))
 
 same-length : tie.Need-same-length Inv-loop μ-loop
 same-length c = search needs

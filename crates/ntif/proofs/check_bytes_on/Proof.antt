@@ -1,7 +1,6 @@
 use borrow.Author.Needs.{needs}
 use native.Mathlib.Omega.{arith}
-use Rattle.stages.proofs.Stages.{states-order}
-use Rattle.ntif.proofs.Checking.{accepted-trailer, accepted-rooted, accepted-fits, accepted-count, accepted-most, bytes-refused, bytes-accepted}
+use Rattle.ntif.proofs.Checking.{accepted-trailer, accepted-rooted, accepted-fits, accepted-most, bytes-refused, bytes-accepted}
 use Rattle.ntif.proofs.check_bytes_on.Statement.{statement}
 use Rattle.ntif.proofs.check_bytes_on.Tie as tie
 use Rattle.ntif.proofs.check_bytes_on.Reads as reads
@@ -26,8 +25,8 @@ enum-told-2 c = search needs
 trailer-requires : tie.Need-trailer-requires
 trailer-requires c κs = accepted-trailer _ _ (c .before .before .before .before .judge .ensures .verdict) (c .enum-told2 .given .1)
 
-sub-put-masks : tie.Need-sub-put-masks
-sub-put-masks c = states-order (accepted-rooted _ _ (c .before .before .before .before .before .before .before .before .judge .ensures .verdict) (c .before .before .before .before .enum-told2 .given .1) _ (c .before .before .before .trailer .ensures))
+state-count-requires : tie.Need-state-count-requires
+state-count-requires c κs = accepted-rooted _ _ (c .before .before .before .before .before .before .before .judge .ensures .verdict) (c .before .before .before .enum-told2 .given .1) _ (c .before .before .trailer .ensures) .formed .located
 
 cast-put-masks : tie.Need-cast-put-masks
 cast-put-masks c = search needs
@@ -36,7 +35,7 @@ put-masks-requires : tie.Need-put-masks-requires
 put-masks-requires c κs =
     let v = c .before .before .before .before .before .before .before .before .judge .ensures .verdict in
     let e = c .before .before .before .before .enum-told2 .given .1 in
-    let n = accepted-count _ _ v e _ (c .before .before .before .trailer .ensures) in
+    let n = c .state-count .ensures in
     (omega (arith, n, accepted-most _ _ v e, c .before .before .before .before .before .before .before .before .before .before .before .before .before .pre), omega (arith, n, accepted-fits _ _ v e))
 
 pack-verdict-requires-2 : tie.Need-pack-verdict-requires-2
@@ -59,7 +58,7 @@ returns-2 : tie.Need-returns-2
 returns-2 c =
     let g = c .before .before .before .before .before .before .before .before .before .before .before .before .judge .ensures in
     let e = c .before .before .before .before .before .before .before .before .enum-told2 .given .1 in
-    bytes-accepted _ (c .before .before .before .before .before .before .before .before .before .before .before .before .before .before .before .before .before .args .sets .now) (λ j. omega (arith, c .before .before .before .before .before .before .before .before .before .before .before .before .before .before .before .slice-known .given j)) _ g e (accepted-count _ _ (g .verdict) e _ (c .before .before .before .before .before .before .before .trailer .ensures)) (c .before .before .before .put-masks .ensures) (c .pack-verdict2 .ensures)
+    bytes-accepted _ (c .before .before .before .before .before .before .before .before .before .before .before .before .before .before .before .before .before .args .sets .now) (λ j. omega (arith, c .before .before .before .before .before .before .before .before .before .before .before .before .before .before .before .slice-known .given j)) _ g e (c .before .before .before .before .state-count .ensures) (c .before .before .before .put-masks .ensures) (c .pack-verdict2 .ensures)
 
 pub check-bytes-on-spec : {M : Type 1} → statement M
 check-bytes-on-spec =
@@ -70,7 +69,7 @@ check-bytes-on-spec =
     pack-verdict-requires
     enum-told-2
     trailer-requires
-    sub-put-masks
+    state-count-requires
     cast-put-masks
     put-masks-requires
     pack-verdict-requires-2

@@ -1,7 +1,6 @@
 use borrow.Author.Needs.{needs}
 use native.Mathlib.Omega.{arith}
-use Rattle.stages.proofs.Stages.{states-order}
-use Rattle.ntif.proofs.Checking.{accepted-trailer, accepted-rooted, accepted-fits, accepted-count, accepted-most, checked-refused, checked-accepted}
+use Rattle.ntif.proofs.Checking.{accepted-trailer, accepted-rooted, accepted-fits, accepted-most, checked-refused, checked-accepted}
 use Rattle.ntif.proofs.check_on.Statement.{statement}
 use Rattle.ntif.proofs.check_on.Tie as tie
 use Rattle.ntif.proofs.check_on.Reads as reads
@@ -22,8 +21,8 @@ enum-told-2 c = search needs
 trailer-requires : tie.Need-trailer-requires
 trailer-requires c κs = accepted-trailer _ _ (c .before .before .before .before .judge .ensures .verdict) (c .enum-told2 .given .1)
 
-sub-copy : tie.Need-sub-copy
-sub-copy c = states-order (accepted-rooted _ _ (c .before .before .before .before .before .before .before .before .judge .ensures .verdict) (c .before .before .before .before .enum-told2 .given .1) _ (c .before .before .before .trailer .ensures))
+state-count-requires : tie.Need-state-count-requires
+state-count-requires c κs = accepted-rooted _ _ (c .before .before .before .before .before .before .before .judge .ensures .verdict) (c .before .before .before .enum-told2 .given .1) _ (c .before .before .trailer .ensures) .formed .located
 
 cast-copy : tie.Need-cast-copy
 cast-copy c = search needs
@@ -32,7 +31,7 @@ copy-requires : tie.Need-copy-requires
 copy-requires c κs =
     let v = c .before .before .before .before .before .before .before .before .judge .ensures .verdict in
     let e = c .before .before .before .before .enum-told2 .given .1 in
-    let n = accepted-count _ _ v e _ (c .before .before .before .trailer .ensures) in
+    let n = c .state-count .ensures in
     (omega (arith, n, accepted-most _ _ v e, c .before .before .before .before .before .before .before .before .before .before .before .before .before .pre), omega (arith, n, accepted-fits _ _ v e))
 
 same-length : tie.Need-same-length
@@ -51,7 +50,7 @@ returns-2 : tie.Need-returns-2
 returns-2 c =
     let g = c .before .before .before .before .before .before .before .before .before .before .before .judge .ensures in
     let e = c .before .before .before .before .before .before .before .enum-told2 .given .1 in
-    checked-accepted _ _ _ g e (accepted-count _ _ (g .verdict) e _ (c .before .before .before .before .before .before .trailer .ensures)) (c .before .before .copy .ensures)
+    checked-accepted _ _ _ g e (c .before .before .before .state-count .ensures) (c .before .before .copy .ensures)
 
 pub check-on-spec : {M : Type 1} → statement M
 check-on-spec =
@@ -61,7 +60,7 @@ check-on-spec =
     enum-told
     enum-told-2
     trailer-requires
-    sub-copy
+    state-count-requires
     cast-copy
     copy-requires
     same-length

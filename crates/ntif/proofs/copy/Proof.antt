@@ -3,7 +3,7 @@ use mathlib.Core.{Path._≡_, Path.refl, Path._∙_, List._++_}
 use Prim.Native.Nat.{_≤_, _-_}
 use native.Mathlib.Omega.{arith}
 use lib.ListN.{length, take, drop, length-set}
-use Rattle.ntif.proofs.Copied.{copied-step}
+use Rattle.words.proofs.Copied.{copied-step}
 use Rattle.ntif.proofs.copy.Statement.{statement}
 use Rattle.ntif.proofs.copy.Tie as tie
 use Rattle.ntif.proofs.copy.Reads as reads
@@ -40,7 +40,7 @@ loop-again : tie.Need-loop-again Inv-loop μ-loop
 loop-again c =
     let o = c .before .before in
     let a = c .before .before .before in
-    (omega arith, length-set (o .loop .sets) (o .loop .i) _ ∙ o .loop .inv .1, copied-step (a .args .masks .now) (a .args .sets .now) (o .loop .sets) (o .loop .i) (omega arith) (omega arith) (o .loop .inv .2))
+    (omega arith, length-set (o .loop .sets) (o .loop .i) _ ∙ o .loop .inv .1, copied-step 0 (a .args .masks .now) (a .args .sets .now) (o .loop .sets) (o .loop .i) (omega arith) (omega arith) (o .loop .inv .2))
 
 same-length : tie.Need-same-length Inv-loop μ-loop
 same-length c = search needs

@@ -1,8 +1,10 @@
 -- `fill`: the invariant is that the rows below r are filled in. Assumes nothing.
 use native.Mathlib.Omega.{arith}
 use borrow.Author.Needs.{needs}
+use mathlib.Core.Path.{_∙_}
 use Prim.Native.Nat.{_-_}
-use Rattle.speech.proofs.Pass.{rows-in, Passing, begun, ready, in-ways, in-u16, turned, ended}
+use Rattle.image.proofs.Laid.{rows-count}
+use Rattle.speech.proofs.Pass.{Passing, begun, ready, in-ways, in-u16, turned, ended}
 use Rattle.speech.proofs.fill.Statement.{statement}
 use Rattle.speech.proofs.fill.Tie as tie
 
@@ -13,10 +15,10 @@ abbrev μ-loop : tie.MeasureT-loop
 μ-loop image i ways₀ n r₀ ways r = n - r
 
 row-count-requires : tie.Need-row-count-requires Inv-loop μ-loop
-row-count-requires c κs = rows-in (c .before .before .pre .rooted .formed)
+row-count-requires c κs = c .before .before .pre .rooted .formed .located
 
 loop-holds : tie.Need-loop-holds Inv-loop μ-loop
-loop-holds c = begun (c .row-count .ensures)
+loop-holds c = begun (c .row-count .ensures ∙ rows-count (c .before .before .before .pre .rooted .formed .located))
 
 row-ways-requires : tie.Need-row-ways-requires Inv-loop μ-loop
 row-ways-requires c κs = ready (c .before .before .before .before .before .before .pre) (c .before .before .loop .inv) (c .before .loop-test .taken)

@@ -3,18 +3,18 @@ use native.Mathlib.Omega.{arith}
 use borrow.Author.Tests.{not-true, not-false}
 use mathlib.Core.Path.{sym, _∙_}
 use Prim.Native.Nat.{_-_}
-use Rattle.speech.proofs.States.{Looking, begun, states-in, state-of, in-u16, in-ways, speaks-well, passed, refused, accepted}
+use Rattle.speech.proofs.States.{Looking, begun, state-of, in-u16, in-ways, speaks-well, passed, refused, accepted}
 use Rattle.speech.proofs.judged.Statement.{statement}
 use Rattle.speech.proofs.judged.Tie as tie
 
 abbrev Inv-loop : tie.InvT-loop
-Inv-loop image i ways n s₀ s = Looking image i n s
+Inv-loop image i ways n s₀ s = Looking image n s
 
 abbrev μ-loop : tie.MeasureT-loop
 μ-loop image i ways n s₀ s = n - s
 
 state-count-requires : tie.Need-state-count-requires Inv-loop μ-loop
-state-count-requires c κs = states-in (c .before .before .pre)
+state-count-requires c κs = c .before .before .pre .lent .rooted .formed .located
 
 loop-holds : tie.Need-loop-holds Inv-loop μ-loop
 loop-holds c = begun (c .state-count .ensures)

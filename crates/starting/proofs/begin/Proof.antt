@@ -1,7 +1,7 @@
 -- `starting::begin` meets its contract. Assumes nothing.
 use borrow.Author.Needs.{needs}
 use Rattle.starting.proofs.Judging.{begins-of}
-use Rattle.starting.proofs.Clearing.{variables-are, variables-few}
+use Rattle.starting.proofs.Clearing.{variables-few}
 use lib.Seq.{length-take-le}
 use mathlib.Core.Path.{sym}
 use native.Mathlib.Omega.{arith}
@@ -9,13 +9,13 @@ use Rattle.starting.proofs.begin.Statement.{statement}
 use Rattle.starting.proofs.begin.Tie as tie
 
 array-borrow-prefix-work : tie.Need-array-borrow-prefix-work
-array-borrow-prefix-work c = let h = c .before .before .pre .slotted in omega (arith, h .slots, variables-are (h .cleared), variables-few (h .cleared))
+array-borrow-prefix-work c = let h = c .before .before .pre .slotted in omega (arith, h .slots, variables-few (h .cleared))
 
 slice-aggregate-begin-on : tie.Need-slice-aggregate-begin-on
-slice-aggregate-begin-on c = let h = c .before .before .before .pre .slotted in sym (length-take-le _ _ (omega (arith, h .slots, variables-are (h .cleared), variables-few (h .cleared))))
+slice-aggregate-begin-on c = let h = c .before .before .before .pre .slotted in sym (length-take-le _ _ (omega (arith, h .slots, variables-few (h .cleared))))
 
 begin-on-requires : tie.Need-begin-on-requires
-begin-on-requires c κs = let h = c .before .before .before .pre .slotted in begins-of (c .before .before .before .pre) (length-take-le _ _ (omega (arith, h .slots, variables-are (h .cleared), variables-few (h .cleared))))
+begin-on-requires c κs = let h = c .before .before .before .pre .slotted in begins-of (c .before .before .before .pre) (length-take-le _ _ (omega (arith, h .slots, variables-few (h .cleared))))
 
 same-length : tie.Need-same-length
 same-length c = search needs

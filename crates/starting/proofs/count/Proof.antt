@@ -1,40 +1,40 @@
 -- `starting::count` meets its contract. Assumes nothing.
 use borrow.Author.Needs.{needs}
 use Rattle.starting.proofs.Judging.{to-begin, counted-store, counted-params, counted-begun}
-use Rattle.starting.proofs.Clearing.{variables-are, variables-order}
+use Rattle.stages.proofs.Cleared.{located}
 use mathlib.Core.Path.{sym, _∙_}
 use Rattle.starting.proofs.count.Statement.{statement}
 use Rattle.starting.proofs.count.Tie as tie
 
-sub-if1 : tie.Need-sub-if1
-sub-if1 c = variables-order (c .before .before .pre)
+variable-count-requires : tie.Need-variable-count-requires
+variable-count-requires c κs = located (c .before .pre)
 
 cast-if1 : tie.Need-cast-if1
 cast-if1 c = search needs
 
 returns : tie.Need-returns
-returns c = counted-store _ _ _ (λ e. c .if1 .taken (e ∙ variables-are (c .before .before .before .pre)))
+returns c = counted-store _ _ _ (λ e. c .if1 .taken (e ∙ sym (c .before .variable-count .ensures)))
 
 parameter-count-requires : tie.Need-parameter-count-requires
 parameter-count-requires c κs = search needs
 
 returns-2 : tie.Need-returns-2
-returns-2 c = counted-params _ _ _ (c .before .before .if1 .left ∙ sym (variables-are (c .before .before .before .before .before .pre))) (λ e. c .if2 .taken (e ∙ sym (c .before .parameter-count .ensures)))
+returns-2 c = counted-params _ _ _ (c .before .before .if1 .left ∙ c .before .before .before .variable-count .ensures) (λ e. c .if2 .taken (e ∙ sym (c .before .parameter-count .ensures)))
 
 begin-requires : tie.Need-begin-requires
-begin-requires c κs = to-begin (c .before .before .before .before .before .before .pre) (c .before .before .before .if1 .left) (c .before .before .parameter-count .ensures) (c .before .if2 .left)
+begin-requires c κs = to-begin (c .before .before .before .before .before .before .pre) (c .before .before .before .if1 .left ∙ c .before .before .before .before .variable-count .ensures) (c .before .before .parameter-count .ensures) (c .before .if2 .left)
 
 same-length : tie.Need-same-length
 same-length c = search needs
 
 returns-3 : tie.Need-returns-3
-returns-3 c = counted-begun _ _ _ (c .before .before .before .before .before .if1 .left ∙ sym (variables-are (c .before .before .before .before .before .before .before .before .pre))) (c .before .before .before .if2 .left ∙ c .before .before .before .before .parameter-count .ensures) (c .before .begin .ensures)
+returns-3 c = counted-begun _ _ _ (c .before .before .before .before .before .if1 .left ∙ c .before .before .before .before .before .before .variable-count .ensures) (c .before .before .before .if2 .left ∙ c .before .before .before .before .parameter-count .ensures) (c .before .begin .ensures)
 
 pub count-spec : {M : Type 1} → statement M
 count-spec =
     tie.close
     (tie.spec
-    sub-if1
+    variable-count-requires
     cast-if1
     returns
     parameter-count-requires

@@ -6,7 +6,8 @@ use mathlib.Core.Path.{_≡_, refl}
 use lib.ListN.{length, length-set}
 use Rattle.values.proofs.Held.{held-is}
 use Rattle.model.specs.Image.{tablesOf}
-use Rattle.starting.proofs.Clearing.{variables-are, variables-order, variable-of, parameter-small}
+use Rattle.stages.proofs.Cleared.{located}
+use Rattle.starting.proofs.Clearing.{variable-of, parameter-small}
 use Rattle.starting.proofs.Filling.{FilledTo, filled-none, given-there, filled-next, filled-all, filled-started}
 use Rattle.starting.proofs.fill.Statement.{statement}
 use Rattle.starting.proofs.fill.Tie as tie
@@ -17,8 +18,8 @@ Inv-loop image i params work₀ count k₀ v₀ work k v = (v ≤ count) × (len
 abbrev μ-loop : tie.MeasureT-loop
 μ-loop image i params work₀ count k₀ v₀ work k v = count - v
 
-sub-count : tie.Need-sub-count Inv-loop μ-loop
-sub-count c = variables-order (c .before .before .pre .slotted .cleared)
+variable-count-requires : tie.Need-variable-count-requires Inv-loop μ-loop
+variable-count-requires c κs = located (c .before .pre .slotted .cleared)
 
 loop-holds : tie.Need-loop-holds Inv-loop μ-loop
 loop-holds c = (omega arith, refl, filled-none _ _ _ (c .before .before .pre .values))
@@ -27,18 +28,18 @@ parameter-requires : tie.Need-parameter-requires Inv-loop μ-loop
 parameter-requires c κs = variable-of (c .before .before .before .before .pre .slotted .cleared) _ (search needs)
 
 given-requires : tie.Need-given-requires Inv-loop μ-loop
-given-requires c κs = record { inside = given-there _ (omega (arith, variables-are (c .before .before .before .before .before .pre .slotted .cleared))) (c .parameter .ensures) (c .before .before .loop .inv .2) }
+given-requires c κs = record { inside = given-there _ (omega arith) (c .parameter .ensures) (c .before .before .loop .inv .2) }
 
-cast-t12 : tie.Need-cast-t12 Inv-loop μ-loop
-cast-t12 c = search needs
+cast-t11 : tie.Need-cast-t11 Inv-loop μ-loop
+cast-t11 c = search needs
 
-mul-t13 : tie.Need-mul-t13 Inv-loop μ-loop
-mul-t13 c = search needs
+mul-t12 : tie.Need-mul-t12 Inv-loop μ-loop
+mul-t12 c = search needs
 
 slice-set-from-work : tie.Need-slice-set-from-work Inv-loop μ-loop
 slice-set-from-work c =
     let h = c .before .before .before .before .before .before .pre .slotted in
-    omega (arith, variables-are (h .cleared), h .slots, c .before .before .before .loop .inv .1)
+    omega (arith, h .slots, c .before .before .before .loop .inv .1)
 
 cast-k : tie.Need-cast-k Inv-loop μ-loop
 cast-k c = search needs
@@ -55,9 +56,8 @@ loop-less c = search needs
 loop-again : tie.Need-loop-again Inv-loop μ-loop
 loop-again c =
     let h = c .before .before .before .before .before .before .pre .slotted in
-    let n = variables-are (h .cleared) in
     let p = c .before .parameter .ensures in
-    (omega arith, simp length-set (c .before .before .before .loop .inv .1), rw (held-is (c .given .result) (c .given .ok)) (filled-next _ (omega (arith, n)) p (c .before .before .before .loop .inv .2) _ (omega (arith, p, parameter-small (h .cleared) (c .before .before .before .loop .v) (omega arith))) (omega (arith, n, h .slots, c .before .before .before .loop .inv .1)) (c .given .ensures)))
+    (omega arith, simp length-set (c .before .before .before .loop .inv .1), rw (held-is (c .given .result) (c .given .ok)) (filled-next _ (omega arith) p (c .before .before .before .loop .inv .2) _ (omega (arith, p, parameter-small (h .cleared) (c .before .before .before .loop .v) (omega arith))) (omega (arith, h .slots, c .before .before .before .loop .inv .1)) (c .given .ensures)))
 
 same-length : tie.Need-same-length Inv-loop μ-loop
 same-length c = search needs
@@ -65,8 +65,7 @@ same-length c = search needs
 returns : tie.Need-returns Inv-loop μ-loop
 returns c =
     let h = c .before .before .before .before .pre .slotted in
-    let n = variables-are (h .cleared) in
-    filled-started _ _ (filled-all (omega (arith, n)) (omega (arith, n, h .slots, c .before .loop .inv .1)) (c .before .loop .inv .2))
+    filled-started _ _ (filled-all (omega arith) (omega (arith, h .slots, c .before .loop .inv .1)) (c .before .loop .inv .2))
 
 pub fill-spec : {M : Type 1} → statement M
 fill-spec =
@@ -74,12 +73,12 @@ fill-spec =
     (tie.spec
     Inv-loop
     μ-loop
-    sub-count
+    variable-count-requires
     loop-holds
     parameter-requires
     given-requires
-    cast-t12
-    mul-t13
+    cast-t11
+    mul-t12
     slice-set-from-work
     cast-k
     add-k

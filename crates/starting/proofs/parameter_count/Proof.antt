@@ -3,7 +3,8 @@ use borrow.Author.Needs.{needs}
 use Prim.Native.Nat.{_≤_, _-_}
 use native.Mathlib.Omega.{arith}
 use Rattle.model.specs.Image.{tablesOf}
-use Rattle.starting.proofs.Clearing.{variables-are, variables-order, variable-of, parameter-small}
+use Rattle.stages.proofs.Cleared.{located}
+use Rattle.starting.proofs.Clearing.{variable-of, parameter-small}
 use Rattle.starting.proofs.Filling.{Counted, counted-none, counted-next, counted-all}
 use Rattle.starting.proofs.parameter_count.Statement.{statement}
 use Rattle.starting.proofs.parameter_count.Tie as tie
@@ -14,8 +15,8 @@ Inv-loop image i count n₀ v₀ n v = (v ≤ count) × Counted (tablesOf image 
 abbrev μ-loop : tie.MeasureT-loop
 μ-loop image i count n₀ v₀ n v = count - v
 
-sub-count : tie.Need-sub-count Inv-loop μ-loop
-sub-count c = variables-order (c .before .before .pre)
+variable-count-requires : tie.Need-variable-count-requires Inv-loop μ-loop
+variable-count-requires c κs = located (c .before .pre)
 
 loop-holds : tie.Need-loop-holds Inv-loop μ-loop
 loop-holds c = (omega arith, counted-none _)
@@ -38,10 +39,10 @@ loop-less c = search needs
 loop-again : tie.Need-loop-again Inv-loop μ-loop
 loop-again c =
     let h = c .before .before .before .before .before .pre in
-    (omega arith, counted-next _ (omega (arith, variables-are h)) (c .parameter .ensures) (omega (arith, c .parameter .ensures, parameter-small h (c .before .before .loop .v) (omega arith))) (c .before .before .loop .inv .1))
+    (omega arith, counted-next _ (omega arith) (c .parameter .ensures) (omega (arith, c .parameter .ensures, parameter-small h (c .before .before .loop .v) (omega arith))) (c .before .before .loop .inv .1))
 
 returns : tie.Need-returns Inv-loop μ-loop
-returns c = counted-all (omega (arith, variables-are (c .before .before .before .before .pre))) (c .before .loop .inv .1)
+returns c = counted-all (omega arith) (c .before .loop .inv .1)
 
 pub parameter-count-spec : {M : Type 1} → statement M
 parameter-count-spec =
@@ -49,7 +50,7 @@ parameter-count-spec =
     (tie.spec
     Inv-loop
     μ-loop
-    sub-count
+    variable-count-requires
     loop-holds
     parameter-requires
     cast-n

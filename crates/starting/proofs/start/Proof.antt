@@ -1,6 +1,7 @@
 -- `starting::start` meets its contract. Assumes nothing.
 use borrow.Author.Needs.{needs}
-use Rattle.starting.proofs.Judging.{trailer-there, to-count, start-refused, start-counted}
+use Rattle.stages.proofs.Cleared.{cleared-long, to-cleared}
+use Rattle.starting.proofs.Judging.{start-refused, start-counted}
 use native.Mathlib.Omega.{arith}
 use Rattle.starting.proofs.start.Statement.{statement}
 use Rattle.starting.proofs.start.Tie as tie
@@ -15,10 +16,10 @@ enum-told-2 : tie.Need-enum-told-2
 enum-told-2 c = search needs
 
 trailer-requires : tie.Need-trailer-requires
-trailer-requires c κs = trailer-there _ (c .before .before .image-verdict .ensures) (c .enum-told2 .given .1)
+trailer-requires c κs = cleared-long _ (c .before .before .image-verdict .ensures) (c .enum-told2 .given .1)
 
 count-requires : tie.Need-count-requires
-count-requires c κs = to-count (λ j. omega (arith, c .before .before .before .before .before .shared-slice-known .given j)) (c .before .trailer .ensures) (c .before .before .before .before .image-verdict .ensures) (c .before .before .enum-told2 .given .1)
+count-requires c κs = to-cleared (λ j. omega (arith, c .before .before .before .before .before .shared-slice-known .given j)) (c .before .before .before .before .image-verdict .ensures) (c .before .before .enum-told2 .given .1) (c .before .trailer .ensures)
 
 returns : tie.Need-returns
 returns c = start-refused _ _ _ (c .before .before .image-verdict .ensures) _ (c .enum-told .given .1)

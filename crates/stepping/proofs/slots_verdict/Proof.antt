@@ -5,7 +5,8 @@ use native.Mathlib.Omega.{arith}
 use Rattle.model.specs.Answers.{lowest}
 use Rattle.model.specs.Image.{tablesOf}
 use Rattle.model.specs.Calls.{slotFits}
-use Rattle.stepping.proofs.Slots.{count-is, variables-order, none-yet, one-more, wrong-here, all-fit}
+use Rattle.stages.proofs.Cleared.{located}
+use Rattle.stepping.proofs.Slots.{none-yet, one-more, wrong-here, all-fit}
 use Rattle.stepping.proofs.slots_verdict.Statement.{statement}
 use Rattle.stepping.proofs.slots_verdict.Tie as tie
 use Rattle.stepping.proofs.slots_verdict.Reads as reads
@@ -20,9 +21,9 @@ abbrev μ-loop : tie.MeasureT-loop
 μ-loop image i store n v₀ v =
     n - v
 
-sub-n : tie.Need-sub-n Inv-loop μ-loop
-sub-n c =
-    variables-order (c .before .before .pre .imaged)
+variable-count-requires : tie.Need-variable-count-requires Inv-loop μ-loop
+variable-count-requires c κs =
+    located (c .before .pre .cleared)
 
 loop-holds : tie.Need-loop-holds Inv-loop μ-loop
 loop-holds c =
@@ -30,11 +31,11 @@ loop-holds c =
 
 slot-fits-requires : tie.Need-slot-fits-requires Inv-loop μ-loop
 slot-fits-requires c κs =
-    record { slotted = c .before .before .before .before .pre; inside = omega (arith, c .loop-test .taken, c .before .before .before .before .pre .size, count-is (c .before .before .before .before .pre .imaged)) }
+    record { slotted = c .before .before .before .before .pre; inside = omega (arith, c .loop-test .taken, c .before .before .before .before .pre .size) }
 
 returns : tie.Need-returns Inv-loop μ-loop
 returns c =
-    wrong-here (c .before .before .before .before .before .before .pre) _ (c .before .before .loop-test .taken) (c .before .before .before .loop .inv .1) (c .before .slot-fits .ensures) (c .if1 .taken)
+    wrong-here (c .before .before .before .before .before .before .pre) _ (omega arith) (c .before .before .before .loop .inv .1) (c .before .slot-fits .ensures) (c .if1 .taken)
 
 add-v : tie.Need-add-v Inv-loop μ-loop
 add-v c =
@@ -58,7 +59,7 @@ slots-verdict-spec =
     (tie.spec
     Inv-loop
     μ-loop
-    sub-n
+    variable-count-requires
     loop-holds
     slot-fits-requires
     returns

@@ -1,7 +1,8 @@
 use borrow.Author.Needs.{needs}
 use native.Mathlib.Omega.{arith}
 use mathlib.Core.Path.{sym, _∙_}
-use Rattle.stepping.proofs.Steps.{image-long, to-imaged, to-runs, image-refuses, run-refuses, step-runs}
+use Rattle.stages.proofs.Cleared.{cleared-long, to-cleared}
+use Rattle.stepping.proofs.Steps.{to-runs, image-refuses, run-refuses, step-runs}
 use Rattle.stepping.proofs.take_step.Statement.{statement}
 use Rattle.stepping.proofs.take_step.Tie as tie
 use Rattle.stepping.proofs.take_step.Reads as reads
@@ -22,11 +23,11 @@ enum-told c = search needs
 
 trailer-requires : tie.Need-trailer-requires
 trailer-requires c κs =
-    image-long _ (c .before .before .image-verdict .ensures) (c .enum-told .given .1)
+    cleared-long _ (c .before .before .image-verdict .ensures) (c .enum-told .given .1)
 
 run-verdict-requires : tie.Need-run-verdict-requires
 run-verdict-requires c κs =
-    to-imaged (λ j. omega (arith, c .before .before .before .before .before .before .before .shared-slice-known .given j)) (c .before .before .before .before .before .image-verdict .ensures) (c .before .before .before .enum-told .given .1) (c .before .before .trailer .ensures)
+    to-cleared (λ j. omega (arith, c .before .before .before .before .before .before .before .shared-slice-known .given j)) (c .before .before .before .before .before .image-verdict .ensures) (c .before .before .before .enum-told .given .1) (c .before .before .trailer .ensures)
 
 enum-known-u : tie.Need-enum-known-u
 enum-known-u c = search needs
@@ -36,7 +37,7 @@ enum-told-2 c = search needs
 
 run-step-requires : tie.Need-run-step-requires
 run-step-requires c κs =
-    to-runs (to-imaged (λ j. omega (arith, c .before .before .before .before .before .before .before .before .before .before .before .before .shared-slice-known .given j)) (c .before .before .before .before .before .before .before .before .before .before .image-verdict .ensures) (c .before .before .before .before .before .before .before .before .enum-told .given .1) (c .before .before .before .before .before .before .before .trailer .ensures)) (c .before .before .before .before .run-verdict .ensures) (c .before .before .enum-told2 .given .1)
+    to-runs (to-cleared (λ j. omega (arith, c .before .before .before .before .before .before .before .before .before .before .before .before .shared-slice-known .given j)) (c .before .before .before .before .before .before .before .before .before .before .image-verdict .ensures) (c .before .before .before .before .before .before .before .before .enum-told .given .1) (c .before .before .before .before .before .before .before .trailer .ensures)) (c .before .before .before .before .run-verdict .ensures) (c .before .before .enum-told2 .given .1)
 
 returns : tie.Need-returns
 returns c =

@@ -34,7 +34,7 @@ use Rattle.sets.proofs.flow.+walk+walk_arms+walk_branches+walk_first+wa
 use Rattle.sets.proofs.flow.jump.Reads as jump-reads
 use Rattle.sets.proofs.flow.mask_at.Reads as mask-at-reads
 use Rattle.sets.proofs.flow.plain.Reads as plain-reads
-use Rattle.sets.proofs.flow.within.Reads as within-reads
+use Rattle.masks.proofs.inside.Reads as inside-reads
 use Rattle.sets.proofs.flow.+walk+walk_arms+walk_branches+walk_first+walk_loop+walk_single.{statement}
 use Rattle.sets.proofs.flow.+walk+walk_arms+walk_branches+walk_first+walk_loop+walk_single.Tie.{close}
 
@@ -115,10 +115,10 @@ abbrev walk-first-claims : ℕ → walk-first-lts.Claims
 walk-first-claims t = (code-reads.Asked, code-reads.Learnt, plain-reads.Asked, plain-reads.Learnt, walk-below t, walk.Post)
 
 abbrev walk-loop-claims : ℕ → walk-loop-lts.Claims
-walk-loop-claims t = (fields-reads.Asked, fields-reads.Learnt, mask-at-reads.Asked, mask-at-reads.Learnt, walk-below t, walk.Post, within-reads.Asked, within-reads.Learnt)
+walk-loop-claims t = (fields-reads.Asked, fields-reads.Learnt, mask-at-reads.Asked, mask-at-reads.Learnt, walk-below t, walk.Post, inside-reads.Asked, inside-reads.Learnt)
 
 abbrev walk-single-claims : ℕ → walk-single-lts.Claims
-walk-single-claims t = (fields-reads.Asked, fields-reads.Learnt, jump-reads.Asked, jump-reads.Learnt, walk-branches-below t, walk-branches.Post, walk-arms-below t, walk-arms.Post, mask-at-reads.Asked, mask-at-reads.Learnt, within-reads.Asked, within-reads.Learnt, walk-loop-below t, walk-loop.Post, plain-reads.Asked, plain-reads.Learnt)
+walk-single-claims t = (fields-reads.Asked, fields-reads.Learnt, jump-reads.Asked, jump-reads.Learnt, walk-branches-below t, walk-branches.Post, walk-arms-below t, walk-arms.Post, mask-at-reads.Asked, mask-at-reads.Learnt, inside-reads.Asked, inside-reads.Learnt, walk-loop-below t, walk-loop.Post, plain-reads.Asked, plain-reads.Learnt)
 
 abbrev walk-Inv-loop : walk-lts.InvT-loop
 walk-Inv-loop image i uses defs row entering top out₀ here₀ set₀ moved₀ fine₀ out here set moved fine =
@@ -243,17 +243,17 @@ walk-loop-walk-requires t c κs = (omega (arith, c .before .before .before .befo
 walk-loop-mask-at-requires-2 : (t : ℕ) → walk-loop-lts.Need-mask-at-requires-2 (walk-loop-claims t) (walk-loop-at t) walk-loop.Post
 walk-loop-mask-at-requires-2 t c κs = loop-masks (c .before .before .before .before .before .before .before .before .before .before .pre .1) (c .before .before .before .before .before .fields .ensures) .0
 
-walk-loop-within-requires : (t : ℕ) → walk-loop-lts.Need-within-requires (walk-loop-claims t) (walk-loop-at t) walk-loop.Post
-walk-loop-within-requires t c κs = search needs
+walk-loop-inside-requires : (t : ℕ) → walk-loop-lts.Need-inside-requires (walk-loop-claims t) (walk-loop-at t) walk-loop.Post
+walk-loop-inside-requires t c κs = search needs
 
-walk-loop-within-requires-2 : (t : ℕ) → walk-loop-lts.Need-within-requires-2 (walk-loop-claims t) (walk-loop-at t) walk-loop.Post
-walk-loop-within-requires-2 t c κs = search needs
+walk-loop-inside-requires-2 : (t : ℕ) → walk-loop-lts.Need-inside-requires-2 (walk-loop-claims t) (walk-loop-at t) walk-loop.Post
+walk-loop-inside-requires-2 t c κs = search needs
 
 walk-loop-same-length : (t : ℕ) → walk-loop-lts.Need-same-length (walk-loop-claims t) (walk-loop-at t) walk-loop.Post
 walk-loop-same-length t c = c .before .before .before .before .before .before .before .walk .kept .1 .1 .1 .1 .1 .1 .1 .0
 
 walk-loop-returns : (t : ℕ) → walk-loop-lts.Need-returns (walk-loop-claims t) (walk-loop-at t) walk-loop.Post
-walk-loop-returns t c = do-loop (c .before .before .before .before .before .before .before .before .before .before .before .before .before .before .before .pre .1) (c .before .before .before .before .before .before .before .before .before .before .fields .ensures) _ _ _ _ _ (c .before .before .before .before .before .before .before .before .before .mask-at .ensures) (c .before .before .before .before .mask-at2 .ensures) (c .before .before .before .before .before .before .before .walk .ensures) (c .before .before .before .within .ensures) (c .within2 .ensures)
+walk-loop-returns t c = do-loop (c .before .before .before .before .before .before .before .before .before .before .before .before .before .before .before .pre .1) (c .before .before .before .before .before .before .before .before .before .before .fields .ensures) _ _ _ _ _ (c .before .before .before .before .before .before .before .before .before .mask-at .ensures) (c .before .before .before .before .mask-at2 .ensures) (c .before .before .before .before .before .before .before .walk .ensures) (c .before .before .before .inside .ensures) (c .inside2 .ensures)
 
 walk-single-fields-requires : (t : ℕ) → walk-single-lts.Need-fields-requires (walk-single-claims t) (walk-single-at t) walk-single.Post
 walk-single-fields-requires t c κs = row-of-kind action _ (c .before .before .before .before .pre .1 .ready .lent .formed) (omega arith) (c .before .before .before .before .pre .1 .ready .kind)
@@ -279,8 +279,8 @@ walk-single-mask-at-requires t c κs = case-masks (c .before .before .before .be
 walk-single-mask-at-requires-2 : (t : ℕ) → walk-single-lts.Need-mask-at-requires-2 (walk-single-claims t) (walk-single-at t) walk-single.Post
 walk-single-mask-at-requires-2 t c κs = case-masks (c .before .before .before .before .before .before .before .before .before .before .before .pre .1) (c .before .before .before .before .before .before .fields .ensures) (c .before .before .before .before .before .match .keys3) .1
 
-walk-single-within-requires : (t : ℕ) → walk-single-lts.Need-within-requires (walk-single-claims t) (walk-single-at t) walk-single.Post
-walk-single-within-requires t c κs = search needs
+walk-single-inside-requires : (t : ℕ) → walk-single-lts.Need-inside-requires (walk-single-claims t) (walk-single-at t) walk-single.Post
+walk-single-inside-requires t c κs = search needs
 
 walk-single-walk-loop-requires : (t : ℕ) → walk-single-lts.Need-walk-loop-requires (walk-single-claims t) (walk-single-at t) walk-single.Post
 walk-single-walk-loop-requires t c κs = (omega (arith, c .before .before .before .before .before .before .before .before .before .pre .0), as-loop (c .before .before .before .before .before .before .before .before .before .pre .1) (c .before .before .before .before .fields .ensures) (c .before .before .if1 .left, omega (arith, c .before .if2 .taken)))
@@ -305,7 +305,7 @@ walk-single-same-length-3 : (t : ℕ) → walk-single-lts.Need-same-length-3 (wa
 walk-single-same-length-3 t c = c .before .before .before .before .before .before .walk-arms .kept .1 .1 .1 .1 .1 .1 .1 .0
 
 walk-single-returns-3 : (t : ℕ) → walk-single-lts.Need-returns-3 (walk-single-claims t) (walk-single-at t) walk-single.Post
-walk-single-returns-3 t c = do-case (c .before .before .before .before .before .before .before .before .before .before .before .before .before .before .pre .1) (c .before .before .before .before .before .before .before .before .before .fields .ensures) (c .before .before .before .before .before .before .before .before .match .keys3) _ _ _ _ (c .before .before .before .before .before .before .walk-arms .ensures) (c .before .before .before .mask-at .ensures) (c .before .before .mask-at2 .ensures) (c .before .within .ensures)
+walk-single-returns-3 t c = do-case (c .before .before .before .before .before .before .before .before .before .before .before .before .before .before .pre .1) (c .before .before .before .before .before .before .before .before .before .fields .ensures) (c .before .before .before .before .before .before .before .before .match .keys3) _ _ _ _ (c .before .before .before .before .before .before .walk-arms .ensures) (c .before .before .before .mask-at .ensures) (c .before .before .mask-at2 .ensures) (c .before .inside .ensures)
 
 walk-single-same-length-4 : (t : ℕ) → walk-single-lts.Need-same-length-4 (walk-single-claims t) (walk-single-at t) walk-single.Post
 walk-single-same-length-4 t c = c .before .before .walk-loop .kept .1 .1 .1 .1 .1 .1 .1 .0
@@ -373,8 +373,8 @@ pub +walk+walk-arms+walk-branches+walk-first+walk-loop+walk-single-spec : {M : T
     (walk-loop-mask-at-requires t)
     (walk-loop-walk-requires t)
     (walk-loop-mask-at-requires-2 t)
-    (walk-loop-within-requires t)
-    (walk-loop-within-requires-2 t)
+    (walk-loop-inside-requires t)
+    (walk-loop-inside-requires-2 t)
     (walk-loop-same-length t)
     (walk-loop-returns t))
     λ t. walk-single-lts.spec (walk-single-claims t)
@@ -386,7 +386,7 @@ pub +walk+walk-arms+walk-branches+walk-first+walk-loop+walk-single-spec : {M : T
     (walk-single-walk-arms-requires t)
     (walk-single-mask-at-requires t)
     (walk-single-mask-at-requires-2 t)
-    (walk-single-within-requires t)
+    (walk-single-inside-requires t)
     (walk-single-walk-loop-requires t)
     (walk-single-plain-requires t)
     (walk-single-same-length t)

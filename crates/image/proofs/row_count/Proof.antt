@@ -1,9 +1,9 @@
--- `rows::sizes::row_count` meets its contract. Assumes nothing.
+-- `image::row_count` meets its contract. Assumes nothing.
 use native.Mathlib.Omega.{arith}
 use mathlib.Core.Path.{sym}
 use Rattle.image.proofs.Laid.{laid, rows-count}
-use Rattle.rows.proofs.sizes.row_count.Statement.{statement}
-use Rattle.rows.proofs.sizes.row_count.Tie as tie
+use Rattle.image.proofs.row_count.Statement.{statement}
+use Rattle.image.proofs.row_count.Tie as tie
 
 sub-result : tie.Need-sub-result
 sub-result c = let l = laid (c .before .pre) in omega (arith, l .exact, l .long)

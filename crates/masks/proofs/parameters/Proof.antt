@@ -1,27 +1,27 @@
--- `parameters` meets its contract: the mask of the variables passed, halved as often. Assumes nothing.
+-- `masks::parameters` meets its contract: the mask of the variables passed, halved as often. Assumes nothing.
 use mathlib.Core.Path.{_∙_, _≡_}
 use Prim.Native.Nat.{_≤_}
 use native.Mathlib.Omega.{arith}
-use lib.ListN.{drop}
+use lib.ListN.{length, drop}
 use borrow.Author.Needs.{needs}
-use Rattle.model.specs.Image.{tablesOf, variableCount}
+use Rattle.model.specs.Image.{tablesOf}
 use Rattle.model.specs.Binding.{parametersOf}
-use Rattle.image.proofs.Laid.{laid}
-use Rattle.sets.proofs.Entries.{from-none, double-fits, one-fits, one-on}
-use Rattle.sets.proofs.parameters.Statement.{statement}
-use Rattle.sets.proofs.parameters.Tie as tie
+use Rattle.image.proofs.Laid.{variables-count}
+use Rattle.masks.proofs.ParameterMask.{from-none, double-fits, one-fits, one-on}
+use Rattle.masks.proofs.parameters.Statement.{statement}
+use Rattle.masks.proofs.parameters.Tie as tie
 
 abbrev Inv-loop : tie.InvT-loop
-Inv-loop image i v₀ m₀ v m = (v ≤ variableCount i) × (m ≡ parametersOf (drop v (tablesOf image .variables)))
+Inv-loop image i v₀ m₀ v m = (v ≤ length (tablesOf image .variables)) × (m ≡ parametersOf (drop v (tablesOf image .variables)))
 
 abbrev μ-loop : tie.MeasureT-loop
 μ-loop image i v₀ m₀ v m = v
 
-variables-requires : tie.Need-variables-requires Inv-loop μ-loop
-variables-requires c κs = omega (arith, laid (c .before .pre .located) .states)
+variable-count-requires : tie.Need-variable-count-requires Inv-loop μ-loop
+variable-count-requires c κs = search needs
 
 loop-holds : tie.Need-loop-holds Inv-loop μ-loop
-loop-holds c = (omega (arith, c .variables .ensures), from-none (c .before .before .pre) _ (c .variables .ensures))
+loop-holds c = (omega (arith, c .variable-count .ensures), from-none (c .before .before .pre) _ (c .variable-count .ensures))
 
 sub-v : tie.Need-sub-v Inv-loop μ-loop
 sub-v c = omega arith
@@ -30,7 +30,7 @@ mul-m : tie.Need-mul-m Inv-loop μ-loop
 mul-m c = record { fits = double-fits (c .before .before .before .before .pre) _ _ (c .loop-test .taken) (c .before .loop .inv .0) (c .before .loop .inv .1) }
 
 parameter-requires : tie.Need-parameter-requires Inv-loop μ-loop
-parameter-requires c κs = record { located = c .before .before .before .before .pre .located; inside = omega (arith, c .before .loop .inv .0) }
+parameter-requires c κs = record { located = c .before .before .before .before .pre .located; inside = omega (arith, c .before .loop .inv .0, variables-count (c .before .before .before .before .pre .located)) }
 
 cast-m : tie.Need-cast-m Inv-loop μ-loop
 cast-m c = search needs
@@ -56,7 +56,7 @@ parameters-spec =
     (tie.spec
     Inv-loop
     μ-loop
-    variables-requires
+    variable-count-requires
     loop-holds
     sub-v
     mul-m

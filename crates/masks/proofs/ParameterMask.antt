@@ -6,7 +6,7 @@ use lib.{Dec.leb, Dec.ltb, ListN.length, ListN.getD, ListN.drop, Pow.pow-mono, S
 use borrow.Author.Tests.{leb-true}
 use Rattle.model.specs.declared.Image.{Image}
 use Rattle.model.specs.Answers.{variable}
-use Rattle.model.specs.Image.{Tables, Entry, entriesFit, entriesRight, sizesFit, tablesOf, entryOf, variableCount}
+use Rattle.model.specs.Image.{Tables, Entry, entriesFit, entriesRight, sizesFit, tablesOf, entryOf}
 use Rattle.model.specs.Binding.{parametersOf}
 use Rattle.model.specs.Largest.{topOf, Sub}
 use Rattle.model.proofs.Rows.{both-true}
@@ -53,16 +53,16 @@ module _ (x : Tables) (e : entriesRight x ≡ true) where
 
 -- the loop over the variables
 module _ {s : List ℕ} {i : Image} (h : Formed s i) where
-  pub from-none : (v : ℕ) → v ≡ variableCount i → 0 ≡ parametersOf (drop v (tablesOf s .variables))
-  from-none v e = let es = tablesOf s .variables in sym (ap (λ n. parametersOf (drop n es)) (e ∙ sym (variables-count (h .located))) ∙ none-left es)
+  pub from-none : (v : ℕ) → v ≡ length (tablesOf s .variables) → 0 ≡ parametersOf (drop v (tablesOf s .variables))
+  from-none v e = let es = tablesOf s .variables in sym (ap (λ n. parametersOf (drop n es)) e ∙ none-left es)
 
-  module _ (v m : ℕ) (l : 0 < v) (b : v ≤ variableCount i) (e : m ≡ parametersOf (drop v (tablesOf s .variables))) where
+  module _ (v m : ℕ) (l : 0 < v) (b : v ≤ length (tablesOf s .variables)) (e : m ≡ parametersOf (drop v (tablesOf s .variables))) where
     pub one-on : (p : ℕ) → p ≡ entryOf (tablesOf s) (variable (v - 1)) .parameter → m * 2 + p ≡ parametersOf (drop (v - 1) (tablesOf s .variables))
     one-on p f =
         let es = tablesOf s .variables in
         let n : v - 1 + 1 ≡ v = omega arith in
         rw (e, f) (ap (λ k. parametersOf (drop k es) * 2 + getD es (v - 1) absent .parameter) (sym n)
-        ∙ one-more es (v - 1) (omega (arith, variables-count (h .located))))
+        ∙ one-more es (v - 1) (omega arith))
 
     pub one-fits : (p : ℕ) → p ≡ entryOf (tablesOf s) (variable (v - 1)) .parameter → m * 2 + p < 2 ^ 64
     one-fits p f =

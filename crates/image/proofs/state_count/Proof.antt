@@ -1,9 +1,9 @@
--- `rows::sizes::state_count` meets its contract. Assumes nothing.
+-- `image::state_count` meets its contract. Assumes nothing.
 use native.Mathlib.Omega.{arith}
 use mathlib.Core.Path.{sym}
 use Rattle.image.proofs.Laid.{laid, states-count}
-use Rattle.rows.proofs.sizes.state_count.Statement.{statement}
-use Rattle.rows.proofs.sizes.state_count.Tie as tie
+use Rattle.image.proofs.state_count.Statement.{statement}
+use Rattle.image.proofs.state_count.Tie as tie
 
 sub-result : tie.Need-sub-result
 sub-result c = let l = laid (c .before .pre) in omega (arith, l .rows)

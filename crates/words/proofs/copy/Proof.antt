@@ -1,13 +1,12 @@
+-- `words::copy` meets its contract. Assumes nothing.
 use borrow.Author.Needs.{needs}
 use mathlib.Core.{Path._≡_, Path.refl, Path._∙_, List._++_}
 use Prim.Native.Nat.{_≤_, _-_}
 use native.Mathlib.Omega.{arith}
 use lib.ListN.{length, take, drop, length-set}
-use Rattle.finishing.proofs.Copied.{copied-step, copied-all}
-use Rattle.finishing.proofs.copy.Statement.{statement}
-use Rattle.finishing.proofs.copy.Tie as tie
-use Rattle.finishing.proofs.copy.Reads as reads
-use Rattle.finishing.proofs.copy.Lts as lts
+use Rattle.words.proofs.Copied.{copied-held, copied-all}
+use Rattle.words.proofs.copy.Statement.{statement}
+use Rattle.words.proofs.copy.Tie as tie
 
 abbrev Inv-loop : tie.InvT-loop
 Inv-loop to₀ from i₀ to i = (i ≤ length from) × (length to ≡ length to₀) × (to ≡ take i from ++ drop i to₀)
@@ -40,7 +39,7 @@ loop-again : tie.Need-loop-again Inv-loop μ-loop
 loop-again c =
     let o = c .before .before in
     let a = c .before .before .before in
-    (omega arith, length-set (o .loop .to) (o .loop .i) _ ∙ o .loop .inv .1, copied-step (a .args .from .now) (a .args .to .now) (o .loop .to) (o .loop .i) (omega arith) (omega arith) (o .loop .inv .2) (c .to .given) refl)
+    (omega arith, length-set (o .loop .to) (o .loop .i) _ ∙ o .loop .inv .1, copied-held (a .args .from .now) (a .args .to .now) (o .loop .to) (o .loop .i) (omega arith) (omega arith) (o .loop .inv .2) (c .to .given) refl)
 
 same-length : tie.Need-same-length Inv-loop μ-loop
 same-length c = search needs

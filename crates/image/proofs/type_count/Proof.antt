@@ -1,9 +1,9 @@
--- `rows::sizes::type_count` meets its contract. Assumes nothing.
+-- `image::type_count` meets its contract. Assumes nothing.
 use native.Mathlib.Omega.{arith}
 use mathlib.Core.Path.{sym}
 use Rattle.image.proofs.Laid.{laid, types-count}
-use Rattle.rows.proofs.sizes.type_count.Statement.{statement}
-use Rattle.rows.proofs.sizes.type_count.Tie as tie
+use Rattle.image.proofs.type_count.Statement.{statement}
+use Rattle.image.proofs.type_count.Tie as tie
 
 sub-result : tie.Need-sub-result
 sub-result c = let l = laid (c .before .pre) in omega (arith, l .types)
