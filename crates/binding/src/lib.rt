@@ -19,9 +19,6 @@ use model::Refusal;
 use model::Row;
 use model::Verdict;
 
-// No row.
-const NONE: u16 = 0xFFFF;
-
 // The row after an item's: only code 46 has it in field b.
 fn next_item(w: Fields) -> u16
     requires { ⌜ Item (kindOf (shapeOf (w .code) .means)) ⌝ }
@@ -36,7 +33,7 @@ fn distinct_items(image: &[u8], i: Image, first: u16, defs: &[u64]) -> bool
     ensures { λ b. ⌜ b ≡ distinct (bitsAt (tablesOf (now (image .entry))) first) ⌝ }
 {
     let mut r = first;
-    while r != NONE {
+    while r != Image::NONE {
         let w = fields(image, i, r);
         let next = next_item(w);
         if !apart(bit(w.a), mask(defs, next)) {
@@ -53,7 +50,7 @@ fn bound_offers(image: &[u8], i: Image, first: u16, uses: &[u64], defs: &[u64]) 
     ensures { λ b. ⌜ b ≡ boundOffers (offersAt (tablesOf (now (image .entry))) first) ⌝ }
 {
     let mut r = first;
-    while r != NONE {
+    while r != Image::NONE {
         let w = fields(image, i, r);
         let later = mask(defs, w.b);
         if !apart(mask(defs, w.a), later) {

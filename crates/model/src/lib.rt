@@ -99,6 +99,20 @@ impl Image {
 
     pub const BUDGET: u32 = 1000000;
 
+    // No row, in a field that may name one.
+    pub const NONE: u16 = 0xFFFF;
+
+    // Types 0 and 1.
+    pub const BOOL: u16 = 0;
+
+    pub const INT: u16 = 1;
+
+    // Half the number of int's values.
+    pub const HALF: u16 = 32768;
+
+    // What a store holds for an undefined variable: no int.
+    pub const UNDEFINED: i32 = 65536;
+
     // The constants are the limits that the definitions name.
     pub fn limits() -> Bounds
         ensures { λ r. ⌜ r ≡ limits ⌝ }

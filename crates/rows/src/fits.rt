@@ -24,10 +24,6 @@ use image::variable_count;
 use model::Fields;
 use model::Image;
 
-const NONE: u16 = 0xFFFF;
-
-const INT: u16 = 1;
-
 // An upper literal is below it.
 const UPPER: u16 = 0x7FFF;
 
@@ -45,7 +41,7 @@ fn next_of(image: &[u8], i: Image, lines: &[u32; CODES], r: u16) -> u16
     ensures { λ n. ⌜ n ≡ nextOf (tablesOf (now (image .entry))) r ⌝ }
 {
     if row_count(image, i) <= r {
-        return NONE;
+        return Image::NONE;
     }
     let w = fields(image, i, r);
     let l = line_of(lines, w.code);
@@ -54,7 +50,7 @@ fn next_of(image: &[u8], i: Image, lines: &[u32; CODES], r: u16) -> u16
     } else if l.c == NEXT {
         w.c
     } else {
-        NONE
+        Image::NONE
     }
 }
 
@@ -65,7 +61,7 @@ fn list_fits(image: &[u8], i: Image, lines: &[u32; CODES], most: u16, n: u16) ->
 {
     let mut at = n;
     let mut left = most;
-    while at != NONE {
+    while at != Image::NONE {
         if left == 0 {
             return false;
         }
@@ -80,7 +76,7 @@ fn names_or_none(image: &[u8], i: Image, lines: &[u32; CODES], r: u16, k: u32, n
     requires { ⌜ Below (now image) (now lines) i r ⌝ }
     ensures { λ b. ⌜ ((j : Kind) → k ≡ numberOfKind j → b ≡ (eqb n none || names (tablesOf (now (image .entry))) r j n)) ⌝ }
 {
-    (n == NONE) | names(image, i, lines, r, k, n)
+    (n == Image::NONE) | names(image, i, lines, r, k, n)
 }
 
 // A row of kind k below row r, the first of a list of so many at most.
@@ -112,7 +108,7 @@ fn names_list_or_none(
     requires { ⌜ Below (now image) (now lines) i r ⌝ }
     ensures { λ b. ⌜ ((j : Kind) → k ≡ numberOfKind j → b ≡ (eqb n none || (names (tablesOf (now (image .entry))) r j n && listFits (tablesOf (now (image .entry))) most n))) ⌝ }
 {
-    (n == NONE) | names_list(image, i, lines, r, k, most, n)
+    (n == Image::NONE) | names_list(image, i, lines, r, k, most, n)
 }
 
 // A value of type t.
@@ -120,7 +116,7 @@ fn value_fits(image: &[u8], i: Image, t: u16, n: u16) -> bool
     requires { ⌜ Located (now image) i ⌝ }
     ensures { λ b. ⌜ b ≡ (eqb t int || ltb n (sizeOf (tablesOf (now (image .entry))) t)) ⌝ }
 {
-    t == INT || (t < type_count(image, i) && n < size(image, i, t))
+    t == Image::INT || (t < type_count(image, i) && n < size(image, i, t))
 }
 
 // The forms that name no row, with their codes.

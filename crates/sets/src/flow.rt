@@ -25,7 +25,7 @@ fn mask_at(masks: &[u64], row: u16) -> u64
     requires { ⌜ (row ≡ none) ⊎ (row < length (now masks)) ⌝ }
     ensures { λ r. ⌜ r ≡ maskAt (now (masks .entry)) row ⌝ }
 {
-    if row == 65535 {
+    if row == Image::NONE {
         return 0;
     }
     masks[row as usize]
@@ -193,7 +193,7 @@ fn walk_branches(
     let mut ends = top;
     let mut moved: u64 = 0;
     let mut fine = true;
-    while here != 65535 {
+    while here != Image::NONE {
         let w = fields(image, i, here);
         let r = walk(image, i, uses, defs, w.a, entering, top, out);
         ends = ends & r.ends;
@@ -222,7 +222,7 @@ fn walk_arms(
     let mut ends = top;
     let mut moved: u64 = 0;
     let mut fine = true;
-    while here != 65535 {
+    while here != Image::NONE {
         let w = fields(image, i, here);
         let entered = entering | mask_at(defs, w.a);
         let r = walk(image, i, uses, defs, w.b, entered, top, out);

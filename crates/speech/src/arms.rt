@@ -8,23 +8,17 @@ ghost use Rattle.model.specs.Masks.{full};
 ghost use Rattle.model.specs.Speech.{isAlways};
 ghost use Rattle.speech.specs.Filled.{armsAt};
 ghost use Rattle.speech.specs.Case.{OfKind, OrNone, CaseOf, TypeIs, CaughtAs, CaughtBy, ValueBit, allIn, exhaustiveAt};
-use crate::NONE;
 use image::fields;
 use image::size;
 use image::variable_type;
 use model::Image;
-
-// Types 0 and 1.
-const BOOL: u16 = 0;
-
-const INT: u16 = 1;
 
 // The condition of an any, or none: whether it is the constant true.
 pub fn always(image: &[u8], i: Image, r: u16) -> bool
     requires { ⌜ OrNone (now image) i expression r ⌝ }
     ensures { λ b. ⌜ b ≡ isAlways (conditionAt (tablesOf (now (image .entry))) r) ⌝ }
 {
-    if r == NONE {
+    if r == Image::NONE {
         return true;
     }
     let w = fields(image, i, r);
@@ -41,8 +35,8 @@ fn type_of(image: &[u8], i: Image, r: u16) -> u16
     match code {
         1 => variable_type(image, i, w.a),
         2 => w.a,
-        19..=24 => INT,
-        _ => BOOL,
+        19..=24 => Image::INT,
+        _ => Image::BOOL,
     }
 }
 
@@ -84,7 +78,7 @@ fn arms_catch(image: &[u8], i: Image, first: u16) -> Caught
     let mut all = false;
     let mut values: u64 = 0;
     let mut at = first;
-    while at != NONE {
+    while at != Image::NONE {
         let w = fields(image, i, at);
         let c = pattern_catches(image, i, w.a);
         all = all | c.all;
@@ -127,7 +121,7 @@ pub fn exhaustive(image: &[u8], i: Image, subject: u16, first: u16) -> bool
         return true;
     }
     let t = type_of(image, i, subject);
-    if t == INT {
+    if t == Image::INT {
         return false;
     }
     all_in(c.values, size(image, i, t))

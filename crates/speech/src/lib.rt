@@ -22,9 +22,6 @@ use model::State;
 use model::Verdict;
 use ways::Modes;
 
-// No row.
-const NONE: u16 = 0xFFFF;
-
 // The ways of a row from those of lower rows: an action's; for a branch or an arm, those of its list from there on, so that
 // no list is walked twice.
 fn row_ways(image: &[u8], i: Image, r: u16, ways: &[u8]) -> Modes
@@ -41,7 +38,7 @@ fn row_ways(image: &[u8], i: Image, r: u16, ways: &[u8]) -> Modes
         52 => Modes::said(), // communication
         53 => Modes::nowhere(), // to
         54 => Modes::at(ways, w.a).then(Modes::at(ways, w.b)), // ;
-        55 => Modes::first(ways, w.a).spoken_needs(w.a != NONE), // select
+        55 => Modes::first(ways, w.a).spoken_needs(w.a != Image::NONE), // select
         56 => Modes::first(ways, w.b).spoken_needs(exhaustive(image, i, w.a, w.b)), // case
         57 => Modes::at(ways, w.a).either(Modes::first(ways, w.b)), // a branch and the next
         58 => Modes::at(ways, w.b).either(Modes::first(ways, w.c)), // an arm and the next

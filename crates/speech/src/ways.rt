@@ -6,7 +6,7 @@ ghost use Rattle.model.specs.Image.{none};
 ghost use Rattle.model.specs.Speech.{nowhere, either, entered, needs, quietLoop};
 ghost use Rattle.speech.specs.Both.{waysOf, bothOf, digit, unpackedWays, Packed, unpacked, entering, kept, nowhereBoth, said, spokenNeeds, eitherOf, followed, loopedWhile, loopedFor};
 ghost use Rattle.speech.specs.Filled.{firstOf};
-use crate::NONE;
+use model::Image;
 
 // How an action entered in one mode can end, and whether all that can be entered is right.
 pub struct Ways {
@@ -258,7 +258,7 @@ impl Modes {
         requires { ⌜ ((r ≡ none → ⊥) → r < length (now ways)) ⌝ }
         ensures { λ w. ⌜ bothOf w ≡ firstOf (now (ways .entry)) r ⌝ }
     {
-        if r == NONE {
+        if r == Image::NONE {
             Modes::nowhere()
         } else {
             Modes::at(ways, r)

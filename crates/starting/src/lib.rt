@@ -20,12 +20,6 @@ use stages::image_verdict;
 use values::of_size;
 use words::copy;
 
-// Half the number of int's values.
-const HALF: u16 = 32768;
-
-// The mark of an undefined variable.
-const UNDEFINED: i32 = 65536;
-
 // How many variables are parameters.
 fn parameter_count(image: &[u8], i: Image) -> usize
     requires { ⌜ Cleared (now image) i ⌝ }
@@ -46,7 +40,7 @@ fn given(p: u16, params: &[i32], k: usize) -> i32
     requires { ⌜ Given p k (length (now params)) ⌝ }
     ensures { λ r. ⌜ r ≡ givenTo p (now (params .entry)) k ⌝ }
 {
-    if p == 1 { params[k] } else { UNDEFINED }
+    if p == 1 { params[k] } else { Image::UNDEFINED }
 }
 
 // The store of an automaton that starts.
@@ -74,7 +68,7 @@ fn right(image: &[u8], i: Image, work: &[i32], v: u16) -> bool
         return true;
     }
     let t = variable_type(image, i, v);
-    of_size(HALF, size(image, i, t), work[v as usize])
+    of_size(Image::HALF, size(image, i, t), work[v as usize])
 }
 
 // 15: the lowest parameter outside its type.

@@ -28,22 +28,16 @@ use told::taken;
 use values::of_size;
 use words::copy;
 
-// Half the number of int's values.
-const HALF: u16 = 32768;
-
-// The mark of an undefined variable.
-const UNDEFINED: i32 = 65536;
-
 // Whether a slot is undefined or of its variable's type.
 fn slot_fits(image: &[u8], i: Image, store: &[i32], v: u16) -> bool
     requires { ⌜ SlotIn (now image) i (now store) v ⌝ }
     ensures { λ r. ⌜ r ≡ slotFits (tablesOf (now (image .entry))) (now (store .entry)) v ⌝ }
 {
     let z = store[v as usize];
-    if z == UNDEFINED {
+    if z == Image::UNDEFINED {
         return true;
     }
-    of_size(HALF, size(image, i, variable_type(image, i, v)), z)
+    of_size(Image::HALF, size(image, i, variable_type(image, i, v)), z)
 }
 
 // 18: the lowest slot that doesn't.

@@ -13,44 +13,37 @@ use model::Refusal;
 use model::Row;
 use model::Verdict;
 
-// No row; in OPERANDS no type: the operands are of one type, whichever that is.
-const NONE: u16 = 0xFFFF;
-
-const BOOL: u16 = 0;
-
-const INT: u16 = 1;
-
 const TAU: u16 = 0;
 
 // The operators' table: the type of the operands and the type of the result, by code from 16 on.
 const OPERANDS: [u16; 12] = [
-    BOOL, // 16 not
-    BOOL, // 17 and
-    BOOL, // 18 or
-    INT, // 19 negate
-    INT, // 20 plus
-    INT, // 21 minus
-    INT, // 22 times
-    INT, // 23 quotient
-    INT, // 24 remainder
-    NONE, // 25 equal
-    INT, // 26 less
-    INT, // 27 less or equal
+    Image::BOOL, // 16 not
+    Image::BOOL, // 17 and
+    Image::BOOL, // 18 or
+    Image::INT, // 19 negate
+    Image::INT, // 20 plus
+    Image::INT, // 21 minus
+    Image::INT, // 22 times
+    Image::INT, // 23 quotient
+    Image::INT, // 24 remainder
+    Image::NONE, // 25 equal
+    Image::INT, // 26 less
+    Image::INT, // 27 less or equal
 ];
 
 const RESULTS: [u16; 12] = [
-    BOOL, // 16 not
-    BOOL, // 17 and
-    BOOL, // 18 or
-    INT, // 19 negate
-    INT, // 20 plus
-    INT, // 21 minus
-    INT, // 22 times
-    INT, // 23 quotient
-    INT, // 24 remainder
-    BOOL, // 25 equal
-    BOOL, // 26 less
-    BOOL, // 27 less or equal
+    Image::BOOL, // 16 not
+    Image::BOOL, // 17 and
+    Image::BOOL, // 18 or
+    Image::INT, // 19 negate
+    Image::INT, // 20 plus
+    Image::INT, // 21 minus
+    Image::INT, // 22 times
+    Image::INT, // 23 quotient
+    Image::INT, // 24 remainder
+    Image::BOOL, // 25 equal
+    Image::BOOL, // 26 less
+    Image::BOOL, // 27 less or equal
 ];
 
 fn operand_type(code: u16) -> u16
@@ -75,7 +68,7 @@ fn takes(code: u16, s: u16, t: u16) -> bool
     ensures { λ b. ⌜ b ≡ takesTypes (operandOf code) s t ⌝ }
 {
     let o = operand_type(code);
-    if o == NONE {
+    if o == Image::NONE {
         return s == t;
     }
     s == o && t == o
@@ -100,8 +93,8 @@ fn type_of_condition(image: &[u8], i: Image, r: u16) -> u16
     requires { ⌜ OrNone (now image) i expression r ⌝ }
     ensures { λ t. ⌜ t ≡ conditionType (tablesOf (now (image .entry))) r ⌝ }
 {
-    if r == NONE {
-        return BOOL;
+    if r == Image::NONE {
+        return Image::BOOL;
     }
     type_of_expression(image, i, r)
 }
@@ -129,7 +122,7 @@ fn gets_typed(image: &[u8], i: Image, r: u16) -> bool
     ensures { λ b. ⌜ b ≡ getsTyped (tablesOf (now (image .entry))) r ⌝ }
 {
     let mut at = r;
-    while at != NONE {
+    while at != Image::NONE {
         let w = fields(image, i, at);
         if type_of_expression(image, i, w.b) != variable_type(image, i, w.a) {
             return false;
@@ -145,7 +138,7 @@ fn of_types_typed(image: &[u8], i: Image, r: u16) -> bool
     ensures { λ b. ⌜ b ≡ ofTypesTyped (tablesOf (now (image .entry))) r ⌝ }
 {
     let mut at = r;
-    while at != NONE {
+    while at != Image::NONE {
         let w = fields(image, i, at);
         if variable_type(image, i, w.a) != w.b {
             return false;
@@ -161,7 +154,7 @@ fn arms_typed(image: &[u8], i: Image, t: u16, r: u16) -> bool
     ensures { λ b. ⌜ b ≡ armsTyped (tablesOf (now (image .entry))) t r ⌝ }
 {
     let mut at = r;
-    while at != NONE {
+    while at != Image::NONE {
         let w = fields(image, i, at);
         if type_of_pattern(image, i, w.a) != t {
             return false;
@@ -177,7 +170,7 @@ fn range_typed(image: &[u8], i: Image, r: u16) -> bool
     ensures { λ b. ⌜ b ≡ rangeTyped (tablesOf (now (image .entry))) r ⌝ }
 {
     let w = fields(image, i, r);
-    variable_type(image, i, w.a) == INT
+    variable_type(image, i, w.a) == Image::INT
 }
 
 // The rule of a row, from the types of the rows that it names.
@@ -194,12 +187,12 @@ fn row_typed(image: &[u8], i: Image, r: u16) -> bool
             type_of_expression(image, i, w.a),
             type_of_expression(image, i, w.b),
         ),
-        35 => type_of_expression(image, i, w.b) == BOOL,
+        35 => type_of_expression(image, i, w.b) == Image::BOOL,
         49 => gets_typed(image, i, w.a),
-        50 => of_types_typed(image, i, w.a) && type_of_condition(image, i, w.b) == BOOL,
-        52 => w.a != TAU || w.b == NONE,
+        50 => of_types_typed(image, i, w.a) && type_of_condition(image, i, w.b) == Image::BOOL,
+        52 => w.a != TAU || w.b == Image::NONE,
         56 => arms_typed(image, i, type_of_expression(image, i, w.a), w.b),
-        59 => type_of_expression(image, i, w.a) == BOOL,
+        59 => type_of_expression(image, i, w.a) == Image::BOOL,
         60 => range_typed(image, i, w.a),
         _ => true,
     }
@@ -210,7 +203,7 @@ pub fn typed(image: &[u8], i: Image, r: u16) -> bool
     requires { ⌜ RootedRow (now image) i r ⌝ }
     ensures { λ b. ⌜ b ≡ typed (tablesOf (now (image .entry))) r ⌝ }
 {
-    if r == i.condition && type_of_expression(image, i, r) != BOOL {
+    if r == i.condition && type_of_expression(image, i, r) != Image::BOOL {
         return false;
     }
     row_typed(image, i, r)
