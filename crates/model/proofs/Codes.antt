@@ -87,10 +87,13 @@ proper k t e = false≢true (ap isKnown (sym e) ∙ t)
 pub known-in : (x : Tables) (k : Kind) (r : ℕ) → isKnown k ≡ true → isKind x k r ≡ true → r < length (x .rows)
 known-in x k r t e = kind-in x k r (proper k t) e
 
+-- a meaning of a known kind has one code
+pub one-code : (c : ℕ) (m : Means) → isKnown (kindOf m) ≡ true → shapeOf c .means ≡ m → codeOf m ≡ c
+one-code c m t e = ⊎-elim (λ q. ap codeOf (sym e) ∙ q) (λ u. absurd (proper (kindOf m) t (ap kindOf (sym e ∙ u)))) (known c)
+
 -- the code of a row of a known kind
 pub code-of : (x : Tables) (k : Kind) (r : ℕ) → isKnown k ≡ true → isKind x k r ≡ true → codeOf (meansAt x r) ≡ fieldsOf x r .code
-code-of x k r t e =
-    ⊎-elim (λ q. q) (λ u. absurd (proper k t (sym (kind-of x k r e) ∙ ap kindOf u))) (known (fieldsOf x r .code))
+code-of x k r t e = one-code (fieldsOf x r .code) (meansAt x r) (ap isKnown (kind-of x k r e) ∙ t) refl
 
 -- the row that the next field of a row of a known meaning names
 pub next-is : (x : Tables) (r : ℕ) (m : Means) → meansAt x r ≡ m

@@ -1,65 +1,30 @@
 -- Rows as the walk reads them: what their codes mean, where their fields point, what their masks are. Assumes nothing.
 use mathlib.Core.{Path._≡_, Path.refl, Path.sym, Path.ap, Path._∙_, Path.subst, Logic._⊎_, Logic.inl, Logic.inr}
-use mathlib.Core.{Bool.Bool, Bool.true, Bool.false, List.List, List.[], List._∷_, List.map}
+use mathlib.Core.{Bool.true, Bool.false, List.List, List.[], List.map}
 use Prim.Native.Nat.{ℕ, suc, _+_, _%_, _≤_, _<_}
 use native.Mathlib.Omega.{arith}
-use lib.{Dec.eqb, ListN.length}
-use borrow.Author.Tests.{eqb-true, ne-eqb}
+use lib.{ListN.length}
+use borrow.Author.Tests.{ne-eqb}
 use Rattle.model.specs.declared.{Image.Image, Fields.Fields}
-use Rattle.model.specs.Lists.{all}
 use Rattle.model.specs.Masks.{bit, union}
 use Rattle.model.specs.Image.{Tables, none, fieldsOf, tablesOf}
-use Rattle.model.specs.Rows.{Kind, expression, pattern, offer, gets, ofType, item, range, action, arm, ActionRow, isNull, isAssign, isChoose, isReset, isCommunicate, isTo, isThen, isSelect, isCase, isWhile, isFor, Means, anExpression, aPattern, anOffer, anAction, another, Shape, codes, lookup, shapeOf, meansAt, numberOfKind, isKind, listUpTo}
+use Rattle.model.specs.Rows.{Kind, expression, pattern, offer, gets, ofType, item, range, action, arm, ActionRow, isNull, isAssign, isChoose, isReset, isCommunicate, isTo, isThen, isSelect, isCase, isWhile, isFor, Means, anAction, codes, lookup, shapeOf, meansAt, numberOfKind, isKind, listUpTo}
 use Rattle.model.specs.Trees.{at, null}
 use Rattle.model.specs.Decode.{always, growAction, expressionAt, conditionAt, patternAt, actionAt, offersAt, getsAt, ofTypesAt, variablesAt, armsOf}
 use Rattle.model.specs.Binding.{assigned, chosen, dropped, useOfExp, defOfPat, useOfOffers, defOfOffers}
 use Rattle.model.specs.Sets.{useOfArms}
-use Rattle.model.proofs.Rows.{both-true, Named, Row, Formed, row-is, is-kind, kind-in}
+use Rattle.model.proofs.Rows.{Named, Row, Formed, row-is, is-kind, kind-in}
+use Rattle.model.proofs.Codes.{codeOf, one-code}
 use Rattle.model.proofs.Decode.{actionAt-is, listAt-none}
 use Rattle.image.specs.Located.{RowOf, Formed as Wellformed}
 use Rattle.image.proofs.Laid.{laid, rows-count}
-use Rattle.demands.proofs.Settle.{choice}
 use Rattle.masks.specs.Masks.{useAs, useAt, defAs, defAt, armsAt}
 use Rattle.sets.specs.Flow.{Masked, maskAt, Lent}
 use Rattle.sets.proofs.Forms.{mask-none, mask-some}
 
 -- ---- codes
-abbrev pub codeOf : ActionRow → ℕ
-codeOf isNull = 48
-codeOf isAssign = 49
-codeOf isChoose = 50
-codeOf isReset = 51
-codeOf isCommunicate = 52
-codeOf isTo = 53
-codeOf isThen = 54
-codeOf isSelect = 55
-codeOf isCase = 56
-codeOf isWhile = 59
-codeOf isFor = 60
-
--- a line of an action has the action's code: a test over the table
-codedAs : Means → ℕ → Bool
-codedAs (anExpression e) c = true
-codedAs (aPattern p) c = true
-codedAs (anOffer o) c = true
-codedAs (anAction a) c = eqb c (codeOf a)
-codedAs (another k) c = true
-
-lookup-coded : (l : List Shape) (c : ℕ) → all (λ s. codedAs (s .means) (s .code)) l ≡ true → codedAs (lookup l c .means) c ≡ true
-unfolding lookup all codedAs
-lookup-coded [] c e = refl
-lookup-coded (s ∷ l) c e =
-    let p = both-true (codedAs (s .means) (s .code)) _ e in
-    choice (λ (t : Shape). codedAs (t .means) c ≡ true) (eqb c (s .code)) s (lookup l c) (λ q. rw (eqb-true c (s .code) q) (p .0))
-    (λ q. lookup-coded l c (p .1))
-
-codes-coded : all (λ s. codedAs (s .means) (s .code)) codes ≡ true
-unfolding codes all codedAs
-codes-coded = refl
-
-action-code : (c : ℕ) (a : ActionRow) → shapeOf c .means ≡ anAction a → c ≡ codeOf a
-unfolding shapeOf codedAs
-action-code c a e = eqb-true c (codeOf a) (subst (λ (m : Means). codedAs m c ≡ true) e (lookup-coded codes c codes-coded))
+action-code : (c : ℕ) (a : ActionRow) → shapeOf c .means ≡ anAction a → c ≡ codeOf (anAction a)
+action-code c a e = sym (one-code c (anAction a) refl e)
 
 -- an action with a code below 53 that is none of these is null
 null-code : (c : ℕ) (a : ActionRow) → shapeOf c .means ≡ anAction a → c < 53
@@ -92,7 +57,7 @@ low-code c isWhile e l p q r s t = absurd (s (action-code c _ e))
 low-code c isFor e l p q r s t = absurd (t (action-code c _ e))
 
 -- an action's code means it
-code-means : (a : ActionRow) → shapeOf (codeOf a) .means ≡ anAction a
+code-means : (a : ActionRow) → shapeOf (codeOf (anAction a)) .means ≡ anAction a
 unfolding shapeOf lookup codes
 code-means isNull = refl
 code-means isAssign = refl
@@ -113,19 +78,19 @@ named-list (inr p) = inr (p .0)
 
 -- ---- a row whose fields are w
 module _ (x : Tables) (ok : Formed x) (r : ℕ) (w : Fields) (reads : w ≡ fieldsOf x r) where
-  means-code : (a : ActionRow) → w .code ≡ codeOf a → meansAt x r ≡ anAction a
+  means-code : (a : ActionRow) → w .code ≡ codeOf (anAction a) → meansAt x r ≡ anAction a
   means-code a e = ap (λ (v : Fields). shapeOf (v .code) .means) (sym reads) ∙ ap (λ k. shapeOf k .means) e ∙ code-means a
 
   pub row-as : (m : Means) → meansAt x r ≡ m → Row x r w m
   row-as m e = subst (λ (v : Fields). Row x r v m) (sym reads) (row-is x ok r m e)
 
-  pub action-row : (a : ActionRow) → w .code ≡ codeOf a → Row x r w (anAction a)
+  pub action-row : (a : ActionRow) → w .code ≡ codeOf (anAction a) → Row x r w (anAction a)
   action-row a e = row-as (anAction a) (means-code a e)
 
   action-as : (m : Means) → meansAt x r ≡ m → actionAt x r ≡ at r (growAction x (actionAt x) w m)
   action-as m e = actionAt-is x ok r m e ∙ ap (λ (v : Fields). at r (growAction x (actionAt x) v m)) (sym reads)
 
-  pub action-is : (a : ActionRow) → w .code ≡ codeOf a → actionAt x r ≡ at r (growAction x (actionAt x) w (anAction a))
+  pub action-is : (a : ActionRow) → w .code ≡ codeOf (anAction a) → actionAt x r ≡ at r (growAction x (actionAt x) w (anAction a))
   action-is a e = action-as (anAction a) (means-code a e)
 
   means-action : isKind x action r ≡ true → (a : ActionRow) × (shapeOf (w .code) .means ≡ anAction a)

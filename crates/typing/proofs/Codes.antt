@@ -1,102 +1,55 @@
--- Codes and meanings: the codes that a row of a meaning can have, by one test of every line of the table of codes, and the
--- operators of the codes 16 to 27. Assumes nothing.
-use mathlib.Core.{Path._≡_, Path.refl, Path.sym, Path.ap, Path.subst, Logic.inl, Logic.inr}
+-- Codes and meanings: the codes that a row of a meaning can have, and the operators of the codes 16 to 27. Assumes nothing.
+use mathlib.Core.{Path._≡_, Path.refl, Path.sym, Path.ap, Logic.inl, Logic.inr}
 use mathlib.Core.{Bool.Bool, Bool.true, Bool.false, Bool._&&_, List.List, List.[], List._∷_}
 use Prim.Native.Nat.{ℕ}
 use native.Mathlib.Omega.{arith}
-use lib.Dec.{T, eqb, leb, ltb}
-use mir.Val.{hasKey}
-use types.Run.{OneOf, hit}
-use borrow.Author.Tests.{eqb-true, leb-true, ltb-true}
+use lib.Dec.{T, leb, ltb}
+use types.Run.{OneOf}
+use borrow.Author.Tests.{leb-true, ltb-true}
 use Rattle.model.specs.Lists.{all}
-use Rattle.model.specs.Rows.{Unary, Not, Negate, Binary, ExpressionRow, isVariable, isConstant, isUnary, isBinary, PatternRow, isAny, isBind, isValue, isWhere, ActionRow, isNull, isAssign, isChoose, isReset, isCommunicate, isTo, isThen, isSelect, isCase, isWhile, isFor, Means, anExpression, aPattern, anOffer, anAction, another, Shape, codes, lookup, shapeOf}
+use Rattle.model.specs.Rows.{Unary, Not, Negate, Binary, And, Or, Plus, Minus, Times, Quotient, Remainder, Equal, Less, AtMost, logic, arithmetic, comparison, isVariable, isConstant, isUnary, isBinary, Means, anExpression, aPattern, anOffer, anAction, another, codes, lookup, shapeOf}
 use Rattle.model.proofs.Rows.{both-true}
+use Rattle.model.proofs.Codes.{codeOf, one-code}
 use Rattle.typing.specs.Rules.{Operator}
 use Rattle.typing.proofs.Table.{at-code}
 
-abbrev codesOfExpression : ExpressionRow → List ℕ
-codesOfExpression isVariable = 1 ∷ []
-codesOfExpression isConstant = 2 ∷ []
-codesOfExpression (isUnary o) = 16 ∷ 19 ∷ []
-codesOfExpression (isBinary o) = 17 ∷ 18 ∷ 20 ∷ 21 ∷ 22 ∷ 23 ∷ 24 ∷ 25 ∷ 26 ∷ 27 ∷ []
-
-abbrev codesOfPattern : PatternRow → List ℕ
-codesOfPattern isAny = 32 ∷ []
-codesOfPattern isBind = 33 ∷ []
-codesOfPattern isValue = 34 ∷ []
-codesOfPattern isWhere = 35 ∷ []
-
-abbrev codesOfAction : ActionRow → List ℕ
-codesOfAction isNull = 48 ∷ []
-codesOfAction isAssign = 49 ∷ []
-codesOfAction isChoose = 50 ∷ []
-codesOfAction isReset = 51 ∷ []
-codesOfAction isCommunicate = 52 ∷ []
-codesOfAction isTo = 53 ∷ []
-codesOfAction isThen = 54 ∷ []
-codesOfAction isSelect = 55 ∷ []
-codesOfAction isCase = 56 ∷ []
-codesOfAction isWhile = 59 ∷ []
-codesOfAction isFor = 60 ∷ []
-
--- n is a code of the meaning
-abbrev coded : Means → ℕ → Bool
-coded (anExpression e) n = hasKey (codesOfExpression e) n
-coded (aPattern p) n = hasKey (codesOfPattern p) n
-coded (anOffer o) n = true
-coded (anAction a) n = hasKey (codesOfAction a) n
-coded (another k) n = true
-
+-- c is the code of the meaning; of an operator, one of those with as many operands
 abbrev pub Coded : Means → ℕ → Type 0
-Coded (anExpression e) n = OneOf (codesOfExpression e) n
-Coded (aPattern p) n = OneOf (codesOfPattern p) n
-Coded (anOffer o) n = Unit
-Coded (anAction a) n = OneOf (codesOfAction a) n
-Coded (another k) n = Unit
+Coded (anExpression isVariable) c = c ≡ 1
+Coded (anExpression isConstant) c = c ≡ 2
+Coded (anExpression (isUnary o)) c = OneOf (16 ∷ 19 ∷ []) c
+Coded (anExpression (isBinary o)) c = OneOf (17 ∷ 18 ∷ 20 ∷ 21 ∷ 22 ∷ 23 ∷ 24 ∷ 25 ∷ 26 ∷ 27 ∷ []) c
+Coded (aPattern p) c = c ≡ codeOf (aPattern p)
+Coded (anOffer o) c = Unit
+Coded (anAction a) c = c ≡ codeOf (anAction a)
+Coded (another k) c = Unit
 
-coded-is : (m : Means) (n : ℕ) → T (coded m n) → Coded m n
-coded-is (anExpression e) n t = hit (codesOfExpression e) n t
-coded-is (aPattern p) n t = hit (codesOfPattern p) n t
-coded-is (anOffer o) n t = tt
-coded-is (anAction a) n t = hit (codesOfAction a) n t
-coded-is (another k) n t = tt
+unary-coded : (o : Unary) (c : ℕ) → c ≡ codeOf (anExpression (isUnary o)) → Coded (anExpression (isUnary o)) c
+unary-coded Not c e = inl e
+unary-coded Negate c e = inr e
 
--- a line that is looked up has the code, and passes a test that every line passes
-abbrev codeIn : Shape → ℕ
-codeIn s = s .code
-
-either-code : (c : ℕ) (s t : Shape) (b : Bool) → eqb c (s .code) ≡ b → t .code ≡ c → codeIn (elim b [ true ↦ s | false ↦ t ]) ≡ c
-either-code c s t true e q = sym (eqb-true c (s .code) e)
-either-code c s t false e q = q
-
-lookup-code : (l : List Shape) (c : ℕ) → lookup l c .code ≡ c
-unfolding lookup
-lookup-code [] c = refl
-lookup-code (s ∷ l) c = either-code c s (lookup l c) (eqb c (s .code)) refl (lookup-code l c)
-
-module _ (p : Shape → Bool) where
-  either-passes : (s t : Shape) (b : Bool) → p s ≡ true → p t ≡ true → p (elim b [ true ↦ s | false ↦ t ]) ≡ true
-  either-passes s t true e q = e
-  either-passes s t false e q = q
-
-  lookup-passes : (l : List Shape) (c : ℕ) → all p l ≡ true → p (lookup [] c) ≡ true → p (lookup l c) ≡ true
-  unfolding lookup all
-  lookup-passes [] c e n = n
-  lookup-passes (s ∷ l) c e n =
-      let q = both-true (p s) (all p l) e in
-      either-passes s (lookup l c) (eqb c (s .code)) (q .0) (lookup-passes l c (q .1) n)
-
-shape-coded : (c : ℕ) → coded (shapeOf c .means) (shapeOf c .code) ≡ true
-unfolding shapeOf lookup codes all
-shape-coded c = lookup-passes (λ s. coded (s .means) (s .code)) codes c refl refl
+binary-coded : (o : Binary) (c : ℕ) → c ≡ codeOf (anExpression (isBinary o)) → Coded (anExpression (isBinary o)) c
+binary-coded (logic And) c e = inl e
+binary-coded (logic Or) c e = inr (inl e)
+binary-coded (arithmetic Plus) c e = inr (inr (inl e))
+binary-coded (arithmetic Minus) c e = inr (inr (inr (inl e)))
+binary-coded (arithmetic Times) c e = inr (inr (inr (inr (inl e))))
+binary-coded (arithmetic Quotient) c e = inr (inr (inr (inr (inr (inl e)))))
+binary-coded (arithmetic Remainder) c e = inr (inr (inr (inr (inr (inr (inl e))))))
+binary-coded (comparison Equal) c e = inr (inr (inr (inr (inr (inr (inr (inl e)))))))
+binary-coded (comparison Less) c e = inr (inr (inr (inr (inr (inr (inr (inr (inl e))))))))
+binary-coded (comparison AtMost) c e = inr (inr (inr (inr (inr (inr (inr (inr (inr e))))))))
 
 -- a code is one of its meaning's codes
 pub code-of : (c : ℕ) (m : Means) → shapeOf c .means ≡ m → Coded m c
-unfolding shapeOf
-code-of c m e =
-    let a : coded m (shapeOf c .code) ≡ true = rw e at (shape-coded c) in
-    let b : coded m c ≡ true = rw (lookup-code codes c) at a in
-    coded-is m c (subst T (sym b) tt)
+code-of c (anExpression isVariable) e = sym (one-code c (anExpression isVariable) refl e)
+code-of c (anExpression isConstant) e = sym (one-code c (anExpression isConstant) refl e)
+code-of c (anExpression (isUnary o)) e = unary-coded o c (sym (one-code c (anExpression (isUnary o)) refl e))
+code-of c (anExpression (isBinary o)) e = binary-coded o c (sym (one-code c (anExpression (isBinary o)) refl e))
+code-of c (aPattern p) e = sym (one-code c (aPattern p) refl e)
+code-of c (anOffer o) e = tt
+code-of c (anAction a) e = sym (one-code c (anAction a) refl e)
+code-of c (another k) e = tt
 
 -- the operators of one operand
 means-of-code : (n : ℕ) (c : ℕ) → c ≡ n → shapeOf c .means ≡ shapeOf n .means
