@@ -1,14 +1,12 @@
 -- The lowest row whose rule fails. Assumes nothing.
-use mathlib.Core.{Path._≡_, Path.refl, Path.sym, Path._∙_, Bool.Bool, Bool.false, List.List}
+use mathlib.Core.{Path._≡_, Path.sym, Path._∙_, Bool.Bool, Bool.false, List.List}
 use Prim.Native.Nat.{ℕ, _≤_, _<_}
 use native.Mathlib.Omega.{arith}
 use lib.{ListN.length, ListN.getD, ListN.take, ListN.length-take, Seq.getD-take}
-use Rattle.model.specs.declared.{Image.Image, Verdict.the-variants.Accepted, Verdict.the-variants.Refused, Refusal.the-variants.Typing, Refusal.the-variants.Binding}
-use Rattle.model.specs.Answers.{row, after, lowest, each}
-use Rattle.model.specs.Image.{Tables, tablesOf, rowCount}
-use Rattle.model.specs.Typing.{typed}
+use Rattle.model.specs.declared.{Image.Image, Verdict.the-variants.Accepted, Verdict.the-variants.Refused, Refusal.the-variants.Binding}
+use Rattle.model.specs.Answers.{row, lowest, each}
+use Rattle.model.specs.Image.{tablesOf, rowCount}
 use Rattle.model.specs.Binding.{parametersOf, bound}
-use Rattle.model.specs.Calls.{rulesVerdict}
 use Rattle.model.proofs.Order.{lowest-full, each-full, each-refuses}
 use Rattle.image.proofs.Laid.{rows-count}
 use Rattle.binding.specs.Bound.{bindingVerdict, Masked, Exact, Ruled, Rule}
@@ -50,8 +48,3 @@ ruled-front {uses = uses} {defs = defs} m e = record {
   used = rw e (exact-front _ _ uses (m .usesSize) (m .useRow));
   defined = rw e (exact-front _ _ defs (m .defsSize) (m .defRow));
 }
-
--- 8 and 9: binding is the second half
-pub rules-halves : (x : Tables) → rulesVerdict x ≡ after (each (typed x) (length (x .rows)) (λ r. Typing (row r))) (bindingVerdict x)
-unfolding rulesVerdict bindingVerdict
-rules-halves x = refl

@@ -9,12 +9,12 @@ use Rattle.model.specs.Rows.{meansAt}
 use Rattle.model.proofs.Rows as Model
 use Rattle.image.specs.Located.{Rooted}
 use Rattle.image.proofs.Laid.{laid, rows-count, variables-count, states-count}
-use Rattle.masks.specs.Masks.{useAt, defAt, Filled}
+use Rattle.masks.specs.Masks.{useAt, defAt}
 use Rattle.masks.specs.Rows.{maskIn, Small}
 use Rattle.masks.proofs.ByKind.{use-none, def-none}
 use Rattle.masks.proofs.ByRow.{small-row}
 use Rattle.masks.proofs.Filling.{formed-of, rows-short, read}
-use Rattle.binding.specs.Bound.{Masked, Exact}
+use Rattle.binding.specs.Bound.{Exact}
 
 module _ {s : List ℕ} {i : Image} (h : Rooted s i) where
   pub ok : Model.Formed (tablesOf s)

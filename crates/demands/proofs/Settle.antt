@@ -1,10 +1,9 @@
 -- What `settle` leaves: at rest, where each round that changes something lowers a measure. And masks as numbers. Assumes nothing.
 use mathlib.Core.{Path._≡_, Path.refl, Logic.⊎-elim, Bool.Bool, Bool.true, Bool.false}
-use Prim.Native.Nat.{ℕ, zero, suc, _^_, _-_, _≤_, _<_}
+use Prim.Native.Nat.{ℕ, zero, suc, _^_, _≤_, _<_}
 use native.Mathlib.{Omega.arith, Decide.decLt, Nat.eq-or-lt-of-le}
-use lib.Pow.{pow-pos}
 use borrow.Author.Tests.{eqb-false}
-use Rattle.model.specs.Masks.{digit, Has, has, full, meet}
+use Rattle.model.specs.Masks.{digit, Has, has, meet}
 use Rattle.model.specs.Largest.{Sub, settle}
 use Rattle.model.proofs.Masks.{digit-meet, digit-out, digit-ext, meet-le}
 
@@ -16,10 +15,6 @@ choice P false x y h k = k refl
 -- a set inside another is no larger a number
 pub sub-le : (a b : ℕ) → Sub a b → a ≤ b
 sub-le a b h = omega (arith, meet-le b a, digit-ext (meet b a) a (λ v. omega (arith, digit-meet b a v, h v)))
-
-pub sub-lt : (n a : ℕ) → Sub a (full n) → a < 2 ^ n
-unfolding full
-sub-lt n a h = omega (arith, sub-le a (2 ^ n - 1) h, pow-pos n)
 
 -- a mask of n digits has only what is below n
 pub has-lt : (n m v : ℕ) → m < 2 ^ n → Has m v → v < n

@@ -118,9 +118,6 @@ module _ (x : Tables) where
     reach-arms (arm p a rest) w r =
         ap₂ (λ (b c : Bool). b && c) (reach a w r) (reach-arms rest w r) ∙ either-after (speech x true a) (speechArms x true rest) w r
 
-  pub reachTo-is : (a : Action) (r : Bool) → reachTo x a r ≡ (speech x true a .right && imp (speech x true a .spoken) r)
-  reachTo-is a r = reach a true r ∙ spoken-after (speech x true a) r
-
   -- Figure 9
   mutual
     unfolding speech wellDef

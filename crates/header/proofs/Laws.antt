@@ -1,12 +1,12 @@
 -- One law for each way of the code of 1 to 4. Assumes nothing.
 use mathlib.Core.{Path._≡_, Path.refl, Path.sym, Path.ap, Path._∙_, Bool.Bool, Bool.true, Bool.false, Bool.not, Bool._&&_, List.List, List.[], List._∷_}
-use Prim.Native.Nat.{ℕ, suc, _+_, _-_, _/_, _%_, _≤_, _<_}
+use Prim.Native.Nat.{ℕ, _+_, _-_, _/_, _%_, _≤_, _<_}
 use native.Mathlib.{Omega.arith, Numerals.add-one}
 use lib.{Dec.eqb, Dec.leb, Dec.ltb, ListN.length, ListN.getD, ListN.drop, Seq.drop-cons, ListN.drop-of-length-le}
 use borrow.Author.Tests.{lt-ltb, le-ltb, le-leb, lt-leb, eq-eqb, ne-eqb, leb-true, eqb-true, not-true, not-false}
-use Rattle.model.specs.declared.{Image.Image, Verdict.Verdict, Verdict.the-variants.Accepted, Verdict.the-variants.Refused, Refusal.Refusal, Refusal.the-variants.ImageLength, Refusal.the-variants.MarkOrLength, Refusal.the-variants.Starts, Refusal.the-variants.Entries}
+use Rattle.model.specs.declared.{Image.Image, Verdict.the-variants.Accepted, Verdict.the-variants.Refused, Refusal.the-variants.ImageLength, Refusal.the-variants.MarkOrLength, Refusal.the-variants.Starts, Refusal.the-variants.Entries}
 use Rattle.model.specs.Answers.{after, unless}
-use Rattle.model.specs.Image.{Entry, lengthFits, marked, trailerOf, rowsEnd, tableFits, startsFit, othersFit, sizesFit, entriesFit, entriesRight, tablesOf, sizeOf, entryOf}
+use Rattle.model.specs.Image.{Entry, lengthFits, marked, trailerOf, tableFits, startsFit, othersFit, sizesFit, entriesFit, entriesRight, tablesOf, sizeOf, entryOf}
 use Rattle.model.specs.Answers.{variable}
 use Rattle.image.proofs.Laid.{laid, types-count}
 use Rattle.model.proofs.Rows.{both-true}

@@ -1,15 +1,13 @@
 -- Where the tables of a located image lie, and what its readers read. Assumes nothing.
-use mathlib.Core.{Path._≡_, Path.refl, Path.sym, Path.ap, Path._∙_, Path.subst, Bool.true, Bool._&&_, List.List}
-use Prim.Native.Nat.{ℕ, _+_, _-_, _*_, _/_, _%_, _≤_, _<_}
+use mathlib.Core.{Path._≡_, Path.refl, Path.sym, Path.ap, Path._∙_, Bool.true, List.List}
+use Prim.Native.Nat.{ℕ, _+_, _-_, _*_, _/_, _%_, _≤_}
 use native.Mathlib.Omega.{arith}
 use lib.{Dec.eqb, Dec.leb, ListN.length, ListN.getD}
 use borrow.Author.Tests.{leb-true, eqb-true}
-use Rattle.model.specs.declared.{Image.Image, Fields.Fields}
-use Rattle.model.specs.Limits.{limits}
-use Rattle.model.specs.Lists.{table}
+use Rattle.model.specs.declared.{Image.Image}
 use Rattle.model.specs.Bytes.{halfAt}
 use Rattle.model.specs.Answers.{variable}
-use Rattle.model.specs.Image.{Entry, none, between, lengthFits, marked, trailerOf, tableFits, startsFit, typeCount, variableCount, stateCount, rowCount, rowsEnd, entryAt, fieldsAt, tablesOf, sizeOf, entryOf, fieldsOf}
+use Rattle.model.specs.Image.{none, lengthFits, marked, trailerOf, tableFits, startsFit, typeCount, variableCount, stateCount, rowCount, rowsEnd, entryAt, fieldsAt, tablesOf, sizeOf, entryOf, fieldsOf}
 use Rattle.model.proofs.Rows.{both-true}
 use Rattle.model.proofs.Bytes.{getD-table, length-table}
 use Rattle.image.specs.Located.{Located, RowOf, TypeOf, VariableOf, StateOf}

@@ -3,11 +3,10 @@
 use mathlib.Core.{Path._≡_, List.List, List.map}
 use Prim.Native.Nat.{ℕ, _<_, _≤_}
 use lib.ListN.{length, getD}
-use Rattle.model.specs.Answers.{variable}
 use Rattle.model.specs.Masks.{bit, union}
 use Rattle.model.specs.Image.{Tables, fieldsOf}
-use Rattle.model.specs.Rows.{Kind, expression, pattern, offer, gets, ofType, item, range, action, branch, arm, unknown, Means, anExpression, aPattern, anOffer, anAction, another, meansAt}
-use Rattle.model.specs.Trees.{Gets, Branches, Arms}
+use Rattle.model.specs.Rows.{expression, pattern, offer, gets, ofType, item, range, action, branch, arm, unknown, Means, anExpression, aPattern, anOffer, anAction, another, meansAt}
+use Rattle.model.specs.Trees.{Branches, Arms}
 use Rattle.model.specs.Decode.{expressionAt, patternAt, actionAt, listAt, offersAt, getsAt, ofTypesAt, variablesAt, branchesOf, armsOf}
 use Rattle.model.specs.Binding.{assigned, chosen, dropped, useOfExp, defOfPat, useOfPat, useOfOffers, defOfOffers, touches, touchesBranches, touchesArms}
 use Rattle.model.specs.Sets.{useOfArms, targets, targetsBranches, targetsArms}

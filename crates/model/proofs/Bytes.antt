@@ -5,7 +5,7 @@ use native.Mathlib.{Nat.add-zero, Nat.add-suc, Nat.suc-add, Nat.pow-suc, Nat.zer
 use lib.{Dec.ltb, IntN.ℤ, IntN.pos, IntN.negsuc, Signed.mag, ListN.length, ListN.getD, Seq.drop-nil, Seq.take-nil}
 use borrow.Author.Tests.{lt-ltb, le-ltb}
 use Rattle.model.specs.Lists.{table, all}
-use Rattle.model.specs.Bytes.{numberOf, numberAt, halfAt, bytesOf, signed, unsigned, wordAt}
+use Rattle.model.specs.Bytes.{numberOf, numberAt, halfAt, bytesOf, signed, unsigned}
 use Rattle.model.proofs.Values.{round-in}
 
 pub length-table : {A : Type 0} (f : ℕ → A) (i n : ℕ) → length (table f i n) ≡ n
@@ -55,10 +55,6 @@ numberAt-in (suc k) s i b = rw numberAt-suc (omega (arith, b i, numberAt-in k s 
 
 pub signed-in : (h n : ℕ) → n < h + h → mag (signed h n) < h
 signed-in h n p = round-in h n true p
-
-pub wordAt-in : (s : List ℕ) (i : ℕ) → ((j : ℕ) → getD s j 0 < 256) → mag (wordAt s i) < 2 ^ 31
-unfolding wordAt
-wordAt-in s i b = signed-in (2 ^ 31) (numberAt 4 s (4 * i)) (numberAt-in 4 s (4 * i) b)
 
 unsigned-by : (h n : ℕ) (t : Bool) → n < h + h → unsigned h (cond t (pos n) (negsuc (h + h - suc n))) ≡ n
 unsigned-by h n true p = refl

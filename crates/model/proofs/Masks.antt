@@ -1,7 +1,7 @@
 -- The laws of sets as masks, by their digits. Assumes nothing.
 use mathlib.Core.{Path._≡_, Path.refl, Path.sym, Path.ap, Path._∙_, Bool.true, List.List, List._∷_}
 use Prim.Native.Nat.{ℕ, zero, suc, _+_, _-_, _*_, _/_, _%_, _^_, _≤_, _<_, min, max}
-use native.Mathlib.{Omega.arith, Decide.decLt, Nat.pow-suc, Nat.mul-comm, Nat.mod-eq-of-lt, Nat.div-one, Nat.div-div-eq-div-mul}
+use native.Mathlib.{Omega.arith, Nat.pow-suc, Nat.mul-comm, Nat.mod-eq-of-lt, Nat.div-one, Nat.div-div-eq-div-mul}
 use lib.{Arith.bin-ind, Pow.pow-pos, Pow.pow-lt, Bits.bitAnd, Bits.bitOr, Bits.and-step, Bits.or-step, Bits.and-le-l, Bits.and-comm, Bits.and-mask, Bits.or-lt}
 use borrow.Author.Tests.{eqb-true, eq-eqb}
 use Rattle.model.specs.Masks.{digit, Has, has, bit, full, meet, join, without, union, inside, apart}
@@ -105,14 +105,6 @@ pub apart-digit : (a b : ℕ) → apart a b ≡ true → (v : ℕ) → digit a v
 unfolding apart
 apart-digit a b e v h = omega (arith, digit-meet a b v, ap (λ m. digit m v) (eqb-true (meet a b) 0 e), digit-zero v)
 
-pub digit-apart : (a b : ℕ) → ((v : ℕ) → digit a v ≡ 1 → digit b v ≡ 0) → apart a b ≡ true
-unfolding apart
-digit-apart a b h = eq-eqb (meet a b) 0 (digit-ext (meet a b) 0 (λ v. go v (decLt 0 (digit a v))))
-  where
-    go : (v : ℕ) → Dec (0 < digit a v) → digit (meet a b) v ≡ digit 0 v
-    go v (yes l) = omega (arith, digit-meet a b v, digit-zero v, h v (omega (arith, digit-le a v)))
-    go v (no f) = omega (arith, digit-meet a b v, digit-zero v)
-
 -- ---- bounds
 pub meet-le : (a b : ℕ) → meet a b ≤ a
 unfolding meet
@@ -189,6 +181,3 @@ unfolding digit
 digit-shift m zero = ap (λ n. n % 2) (sym (div-one m))
 digit-shift m (suc v) =
     digit-shift (m / 2) v ∙ ap (λ n. n % 2) (div-div-eq-div-mul m 2 (2 ^ v) ∙ ap (λ n. m / n) (mul-comm 2 (2 ^ v) ∙ sym (pow-suc 2 v)))
-
-pub shift-and : (m v : ℕ) → bitAnd (m / 2 ^ v) 1 ≡ digit m v
-shift-and m v = and-mask (m / 2 ^ v) 1 ∙ sym (digit-shift m v)

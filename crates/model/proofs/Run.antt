@@ -66,15 +66,6 @@ module _ (x : Tables) (t : ℕ) (script : List ℕ) (r : ℕ) (s : St) (k : ℤ 
   unfolding readingOf
   readingOf-word l e = reading-word script r s _ l ∙ rw e
 
-  pub readingOf-range : s .words < length script / 4 → ofSize (x .half) (sizeOf x t) (wordAt script (s .words)) ≡ false
-      → readingOf x t script r s k ≡ gives (Stops (WordOutOfRange (row r))) (heard s)
-  unfolding readingOf
-  readingOf-range l e = reading-word script r s _ l ∙ rw e
-
-  pub readingOf-ended : length script / 4 ≤ s .words → readingOf x t script r s k ≡ gives (Stops (ScriptEnded (row r))) s
-  unfolding readingOf
-  readingOf-ended l = reading-ended script r s _ l
-
 module _ (y : Value) (r : ℕ) (s : St) (k : ℤ → Res) where
   pub valued-is : (z : ℤ) → y ≡ Is z → valued y r s k ≡ k z
   unfolding valued

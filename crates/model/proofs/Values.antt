@@ -2,7 +2,7 @@
 use mathlib.Core.{Path._≡_, Path.refl, Path.ap, Path._∙_, Bool.Bool, Bool.true, Bool.false, Bool.not, Bool.cond}
 use Prim.Native.Nat.{ℕ, suc, _+_, _-_, _%_, _<_, _≤_}
 use native.Mathlib.{Nat.mod-lt, Nat.mod-eq-of-lt, Nat.div-one, Nat.mod-one, Omega.arith}
-use lib.{Dec.ltb, Dec.eqb, IntN.ℤ, IntN.pos, IntN.negsuc, IntN.negℤ, IntN._+ℤ_, IntN._-ℤ_, IntN._*ℤ_, Signed.mag, Signed.nonNeg, Signed.quotZ, Signed.remZ, Signed.mag-rem}
+use lib.{Dec.ltb, Dec.eqb, IntN.ℤ, IntN.pos, IntN.negsuc, IntN.negℤ, IntN._+ℤ_, IntN._-ℤ_, IntN._*ℤ_, Signed.mag, Signed.nonNeg, Signed.remZ, Signed.mag-rem}
 use borrow.Author.Tests.{lt-ltb, le-ltb, ltb-true, ltb-false, eq-eqb, eqb-true, ne-eqb}
 use Rattle.model.specs.Values.{mark, side, round, wrap, isZero, negate, plus, minus, times, quotient, remainder, same, ofBool, ofSize}
 
@@ -47,9 +47,6 @@ module _ (h : ℕ) (p : 0 < h) where
   pub wrap-in : (z : ℤ) → mag (wrap h z) < h
   unfolding wrap
   wrap-in z = round-in h (mag z % (h + h)) (nonNeg z) (mod-lt (mag z) (omega arith))
-
-  pub wrap-ofSize : (z : ℤ) → ofSize h 0 (wrap h z) ≡ true
-  wrap-ofSize z = ofSize-int h (wrap h z) ∙ lt-ltb _ _ (wrap-in z)
 
   pub negate-in : (a : ℤ) → mag (negate h a) < h
   unfolding negate

@@ -1,17 +1,15 @@
 -- What the stages' verdict gives check. Assumes nothing.
 use mathlib.Core.{Path._≡_, Path.refl, Path.sym, Path.ap, Path._∙_, List.List, List.[], List._++_}
-use Prim.Native.Nat.{ℕ, _+_, _-_, _*_, _/_, _≤_, _<_}
+use Prim.Native.Nat.{ℕ, _/_, _≤_, _<_}
 use native.Mathlib.Omega.{arith}
-use lib.{Dec.leb, ListN.length, ListN.getD, ListN.take, ListN.drop, Seq.take-at}
-use borrow.Author.Tests.{leb-true}
-use Rattle.model.specs.declared.{Image.Image, Verdict.Verdict, Verdict.the-variants.Accepted, Verdict.the-variants.Refused, Refusal.Refusal, Refusal.the-variants.SetsShort}
-use Rattle.model.specs.Answers.{after, unless}
-use Rattle.model.specs.Image.{Tables, tablesOf, trailerOf, stateCount}
+use lib.{ListN.length, ListN.getD, ListN.take, ListN.drop, Seq.take-at}
+use Rattle.model.specs.declared.{Image.Image, Verdict.Verdict, Verdict.the-variants.Accepted, Verdict.the-variants.Refused, Refusal.Refusal}
+use Rattle.model.specs.Answers.{after}
+use Rattle.model.specs.Image.{tablesOf, trailerOf}
 use Rattle.model.specs.Largest.{setsOf}
 use Rattle.model.specs.Bytes.{wordsOf, written}
 use Rattle.model.specs.Exports.{packRefusal, packVerdict, Exported, checkBytes}
-use Rattle.model.specs.Calls.{rulesVerdict, flowVerdict, checkVerdict, Checked, checkedAs, check}
-use Rattle.model.proofs.Order.{after-both, unless-true}
+use Rattle.model.specs.Calls.{checkVerdict, Checked, check}
 use Rattle.image.specs.Located.{Rooted}
 use Rattle.image.proofs.Laid.{laid, states-count}
 use Rattle.demands.proofs.Solved.{sets-length}

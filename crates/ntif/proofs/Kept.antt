@@ -2,7 +2,7 @@
 use mathlib.Core.{Path._≡_, Path.refl, Path.sym, Path.ap, Path._∙_, List.List, List.[], List._∷_, List._++_}
 use Prim.Native.Nat.{ℕ, zero, suc, _+_, _-_, _*_, _/_, _%_, _<_, _≤_}
 use native.Mathlib.{Omega.arith, Nat.mul-suc, Nat.mul-zero, Nat.add-comm, Nat.add-zero, Nat.sub-zero, Nat.zero-sub, Nat.suc-sub-suc, Nat.mul-add}
-use lib.{ListN.length, ListN.getD, ListN.take, ListN.drop, ListN.take-append-drop, ListN.length-drop, Seq.drop-drop, Seq.drop-nil, Seq.length-take-le, Seq.getD-take, Seq.getD-drop}
+use lib.{ListN.length, ListN.getD, ListN.take, ListN.drop, ListN.take-append-drop, ListN.length-drop, Seq.drop-drop, Seq.length-take-le, Seq.getD-drop}
 use Rattle.model.specs.Lists.{table}
 use Rattle.model.specs.Bytes.{numberOf, numberAt, bytesOf, wordsOf, written}
 use Rattle.model.proofs.Bytes.{length-table}

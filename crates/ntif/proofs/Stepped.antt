@@ -1,25 +1,23 @@
 -- step on words that are read from bytes, no more of them than can matter. Assumes nothing.
 use mathlib.Core.{Path._≡_, Path.refl, Path.sym, Path.ap, Path._∙_, Bool.Bool, Bool.true, Bool.false, List.List, List.[], List._∷_, List._++_, List.map, List.append-nil}
-use Prim.Native.Nat.{ℕ, zero, suc, _+_, _-_, _*_, _/_, _^_, _≤_, _<_, min}
+use Prim.Native.Nat.{ℕ, zero, suc, _*_, _/_, _^_, _≤_, _<_, min}
 use native.Mathlib.Omega.{arith}
-use lib.{Dec.eqb, Dec.leb, Dec.ltb, IntN.ℤ, ListN.length, ListN.getD, ListN.take, ListN.drop, ListN.length-append, ListN.length-map, ListN.drop-of-length-le, Seq.take-all, Seq.take-length}
-use borrow.Author.Tests.{eq-eqb, ne-eqb, eqb-true, eqb-false, ltb-true, ltb-false, lt-ltb, le-ltb, leb-true, leb-false, le-leb, lt-leb}
-use Rattle.model.specs.declared.{State.State, Move.Move, Verdict.Verdict, Verdict.the-variants.Accepted, Verdict.the-variants.Refused, Refusal.Refusal, Refusal.the-variants.NoState, Refusal.the-variants.StoreLength, Stepped.Stepped, Stepped.the-variants.Moved, Stepped.the-variants.NotMoved}
+use lib.{Dec.eqb, Dec.leb, Dec.ltb, IntN.ℤ, ListN.length, ListN.getD, ListN.take, ListN.drop, ListN.length-map, ListN.drop-of-length-le, Seq.take-all, Seq.take-length}
+use borrow.Author.Tests.{eqb-true, ltb-true, ltb-false, lt-ltb, le-ltb, leb-true, leb-false, le-leb, lt-leb}
+use Rattle.model.specs.declared.{Move.Move, Verdict.the-variants.Accepted, Refusal.Refusal, Refusal.the-variants.NoState, Refusal.the-variants.StoreLength, Stepped.Stepped, Stepped.the-variants.Moved, Stepped.the-variants.NotMoved}
 use Rattle.model.specs.Answers.{state, after, unless}
-use Rattle.model.specs.Lists.{table}
-use Rattle.model.specs.Bytes.{numberAt, signed, unsigned, wordsOf, signedWords, written}
-use Rattle.model.specs.Image.{none, trailerOf, tablesOf}
+use Rattle.model.specs.Bytes.{numberAt, unsigned, wordsOf, signedWords, written}
+use Rattle.model.specs.Image.{tablesOf}
 use Rattle.model.specs.Run.{labelWords, Res}
-use Rattle.model.specs.Calls.{imageVerdict, stepVerdict, attempt, StepDone, stayed, movedAs, steppedAs, step}
+use Rattle.model.specs.Calls.{imageVerdict, stepVerdict, attempt, StepDone, step}
 use Rattle.model.specs.Exports.{packRefusal, packStepped, writtenBack, ExportedStep, stepBytes}
 use Rattle.model.proofs.Order.{after-both, unless-true}
-use Rattle.model.proofs.Bytes.{numberAt-in, unsigned-signed}
+use Rattle.model.proofs.Bytes.{numberAt-in}
 use Rattle.words.proofs.Words.{length-signedWords}
-use Rattle.image.specs.Located.{Located}
 use Rattle.image.proofs.Laid.{laid, variables-count, states-count}
 use Rattle.demands.specs.Statements.{AreBytes}
-use Rattle.stepping.specs.Stepping.{slotsVerdict, roomVerdict, runVerdict, ran}
-use Rattle.stepping.proofs.Moved.{IsMove, not-moved, Moves, moves, moved-words, same-answer}
+use Rattle.stepping.specs.Stepping.{slotsVerdict, roomVerdict, runVerdict}
+use Rattle.stepping.proofs.Moved.{not-moved, moves, moved-words, same-answer}
 use Rattle.image.proofs.Accepted.{accepted-located}
 use Rattle.ntif.proofs.Kept.{written-kept}
 use Rattle.ntif.proofs.Starting.{eqb-capped, after-test, after-same, back-table}

@@ -15,7 +15,7 @@ use Rattle.model.specs.Largest.{topOf, Sub, Reached, Largest, reachedOf, begun,
 use Rattle.model.proofs.Bytes.{length-table, getD-table}
 use Rattle.model.proofs.Masks.{digit-le, digit-zero, has-digit, digit-has, sub-refl}
 use Rattle.model.proofs.Order.{lowest-full, each-accepts, each-refuses}
-use Rattle.image.specs.Located.{StateOf, Rooted}
+use Rattle.image.specs.Located.{StateOf}
 use Rattle.image.proofs.Laid.{laid, states-count}
 use Rattle.demands.proofs.Greatest.{Leads, reached-all, reached-in, at-rest, one-largest}
 use Rattle.demands.proofs.Solved.{sets-length, sets-largest}

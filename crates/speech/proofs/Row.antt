@@ -1,5 +1,5 @@
 -- One row of the pass: what it names lies below it, and its ways come from theirs. Assumes nothing.
-use mathlib.Core.{Path._≡_, Path.refl, Path._∙_, Logic._⊎_, Logic.inl, Logic.inr, Logic.⊎-elim}
+use mathlib.Core.{Path._≡_, Path.refl, Path._∙_, Logic.inl, Logic.inr, Logic.⊎-elim}
 use mathlib.Core.{Bool.Bool, Bool.true, Bool.false, Bool.not, Bool.cond, List.List}
 use Prim.Native.Nat.{ℕ, _≤_, _<_}
 use native.Mathlib.Omega.{arith}

@@ -1,17 +1,15 @@
 -- The states, lowest first. Assumes nothing.
-use mathlib.Core.{Path._≡_, Path.refl, Path.sym, Path.ap, Path._∙_, Bool.Bool, Bool.true, Bool.false, List.List}
+use mathlib.Core.{Path._≡_, Path.sym, Path.ap, Path._∙_, Bool.Bool, Bool.true, Bool.false, List.List}
 use Prim.Native.Nat.{ℕ, _+_, _≤_, _<_}
 use native.Mathlib.Omega.{arith}
 use lib.{Dec.ltb, ListN.length, ListN.getD}
 use borrow.Author.Tests.{ltb-true}
-use Rattle.model.specs.declared.{Image.Image, Verdict.the-variants.Accepted, Verdict.the-variants.Refused, Refusal.the-variants.Speech, Refusal.the-variants.Initialisation}
-use Rattle.model.specs.Answers.{state, after, each, lowest}
+use Rattle.model.specs.declared.{Image.Image, Verdict.the-variants.Accepted, Verdict.the-variants.Refused, Refusal.the-variants.Speech}
+use Rattle.model.specs.Answers.{state, each, lowest}
 use Rattle.model.specs.Image.{Tables, none, tablesOf, stateCount}
 use Rattle.model.specs.Rows.{action, isKind, isRoot}
 use Rattle.model.specs.Decode.{act}
-use Rattle.model.specs.Largest.{reachedOf, setsOf, initialised}
 use Rattle.model.specs.Speech.{wellSpoken}
-use Rattle.model.specs.Calls.{flowVerdict}
 use Rattle.model.proofs.Rows.{both-true}
 use Rattle.model.proofs.Order.{lowest-full, lowest-pass, each-full, each-refuses}
 use Rattle.image.specs.Located.{StateOf}
@@ -19,12 +17,6 @@ use Rattle.image.proofs.Laid.{laid, rows-count, states-count}
 use Rattle.speech.specs.Both.{unpacked}
 use Rattle.speech.specs.Verdict.{speechVerdict, Judged, endsRight}
 use Rattle.speech.proofs.Steps.{action-ways}
-
--- 12 is the second half of 11 and 12
-pub flow-is : (x : Tables)
-    → flowVerdict x ≡ after (each (initialised x (reachedOf x) (setsOf x)) (length (x .states)) (λ s. Initialisation (state s))) (speechVerdict x)
-unfolding flowVerdict speechVerdict
-flow-is x = refl
 
 abbrev passes : Tables → ℕ → Bool
 passes x q = wellSpoken x (act x q)

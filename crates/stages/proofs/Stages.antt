@@ -1,30 +1,26 @@
 -- What the stages give and what the next ones are asked. Assumes nothing.
-use mathlib.Core.{Path._≡_, Path.refl, Path.sym, Path.ap, Path._∙_, Bool.Bool, Bool.true, List.List, List._++_}
-use Prim.Native.Nat.{ℕ, _-_, _/_, _≤_, _<_}
+use mathlib.Core.{Path._≡_, Path.sym, Path.ap, Path._∙_, Bool.true, List.List, List._++_}
+use Prim.Native.Nat.{ℕ, _≤_, _<_}
 use native.Mathlib.Omega.{arith}
 use lib.{Dec.leb, ListN.length, ListN.getD, ListN.drop}
 use borrow.Author.Tests.{leb-true, lt-leb, le-leb}
-use Rattle.model.specs.declared.{Image.Image, Verdict.Verdict, Verdict.the-variants.Accepted, Verdict.the-variants.Refused, Refusal.Refusal, Refusal.the-variants.ImageLength, Refusal.the-variants.MarkOrLength, Refusal.the-variants.Starts, Refusal.the-variants.Entries, Refusal.the-variants.Malformed, Refusal.the-variants.NoAction, Refusal.the-variants.NoCondition, Refusal.the-variants.Typing, Refusal.the-variants.Binding, Refusal.the-variants.SetsShort}
+use Rattle.model.specs.declared.{Image.Image, Verdict.Verdict, Verdict.the-variants.Accepted, Verdict.the-variants.Refused, Refusal.Refusal, Refusal.the-variants.ImageLength, Refusal.the-variants.MarkOrLength, Refusal.the-variants.Starts, Refusal.the-variants.Entries, Refusal.the-variants.Malformed, Refusal.the-variants.NoAction, Refusal.the-variants.NoCondition, Refusal.the-variants.Typing, Refusal.the-variants.SetsShort}
 use Rattle.model.specs.Answers.{state, row, after, unless, each}
-use Rattle.model.specs.Image.{Tables, none, lengthFits, marked, trailerOf, startsFit, tablesOf, entriesRight, rowCount, stateCount}
+use Rattle.model.specs.Image.{Tables, none, lengthFits, marked, trailerOf, startsFit, tablesOf, entriesRight, stateCount}
 use Rattle.model.specs.Rows.{action, expression, formed, isRoot}
 use Rattle.model.specs.Typing.{typed}
-use Rattle.model.specs.Binding.{bound}
 use Rattle.model.specs.Largest.{setsOf}
 use Rattle.model.specs.Calls.{rowsVerdict, rulesVerdict, imageVerdict, flowVerdict, checkVerdict}
 use Rattle.model.proofs.Rows.{both-true}
 use Rattle.model.proofs.Order.{after-accepted, after-refused, after-assoc, after-both, unless-true, each-all}
-use Rattle.image.specs.Located.{Located, Formed, Rooted, headerVerdict}
-use Rattle.masks.specs.Masks.{Filled}
-use Rattle.masks.specs.Rows.{Lent}
+use Rattle.image.specs.Located.{Located, Rooted, headerVerdict}
 use Rattle.binding.specs.Bound.{bindingVerdict}
-use Rattle.sets.specs.States.{Lending, Room, Found as SetsFound}
+use Rattle.sets.specs.States.{Room, Found as SetsFound}
 use Rattle.image.proofs.Laid.{laid, states-count}
 use Rattle.typing.specs.Rules.{typingVerdict}
-use Rattle.stages.specs.Judging.{tablesVerdict, Ruled, Masked, roomStage, leaves, Gives, foundVerdict, Found, Flowing, roomVerdict, Flowed, treesVerdict, Judged, Treeing, Sized, Ruling, Checks}
+use Rattle.stages.specs.Judging.{tablesVerdict, Ruled, Masked, roomStage, leaves, foundVerdict, Found, roomVerdict, Flowed, treesVerdict, Judged, Sized, Ruling, Checks}
 use Rattle.stages.proofs.Order.{image-is}
 use Rattle.speech.specs.Verdict.{speechVerdict}
-use Rattle.speech.specs.Filled.{Lent as SpeechLent}
 
 record Header (s : List ℕ) : Type 0 where
   long : lengthFits s ≡ true
@@ -144,10 +140,6 @@ pub flow-speech : {x : Tables} (room : ℕ) {v : Verdict} (r : Verdict) {was mas
     → r ≡ speechVerdict x → Flowed x room r was masks
 flow-speech {x} room r f e g =
     record { verdict = g ∙ sym (room-is x room ∙ after-accepted (foundVerdict x room) _ (sym (f .verdict) ∙ e)); left = f .left }
-
-pub to-speech : {s : List ℕ} {i : Image} {uses defs leads masks ways : List ℕ} → Flowing s i uses defs leads masks ways → (ways' : List ℕ)
-    → length ways' ≡ length ways → SpeechLent s i ways'
-to-speech m w e = record { rooted = m .masked .rooted; room = omega (arith, m .waysSize) }
 
 -- 8 to 12
 pub trees-stays : (room : ℕ) {x : Tables} {n : ℕ} {v : Verdict} {uses defs leads : List ℕ} (y : Refusal) (was : List ℕ) → Ruled x n v uses defs leads

@@ -4,7 +4,7 @@ use Prim.Native.Nat.{ℕ, _≤_}
 use lib.{Dec.leb, ListN.length, ListN.drop}
 use Rattle.model.specs.declared.{Image.Image, Verdict.Verdict, Verdict.the-variants.Accepted, Verdict.the-variants.Refused, Refusal.the-variants.SetsShort, Refusal.the-variants.Initialisation}
 use Rattle.model.specs.Answers.{state, after, unless, each}
-use Rattle.model.specs.Image.{Tables, trailerOf, tablesOf, rowCount, stateCount}
+use Rattle.model.specs.Image.{Tables, trailerOf, tablesOf, rowCount}
 use Rattle.model.specs.Largest.{reachedOf, setsOf, initialised}
 use Rattle.model.specs.Calls.{rowsVerdict, rulesVerdict, imageVerdict, flowVerdict, checkVerdict}
 use Rattle.image.specs.Located.{Rooted, headerVerdict}

@@ -1,7 +1,7 @@
 -- The number of parameters, and the store that an automaton starts with, variable by variable. Assumes nothing.
 use mathlib.Core.{Path._≡_, Path.refl, Path.sym, Path.ap, Path._∙_, Bool.Bool, Bool.true, Bool.false, Bool.cond, List.List, List.[], List._∷_, List._++_, List.append-nil}
 use Prim.Native.Nat.{ℕ, zero, suc, _+_, _^_, _≤_, _<_}
-use native.Mathlib.{Omega.arith, Numerals.add-one, Nat.add-zero, Nat.zero-add}
+use native.Mathlib.{Omega.arith, Numerals.add-one, Nat.add-zero}
 use lib.{Dec.eqb, IntN.ℤ, IntN.pos, Signed.mag, ListN.length, ListN.getD, ListN.set, ListN.take, ListN.drop, ListN.take-append-drop, ListN.drop-of-length-le, Seq.take-suc, Seq.take-all, Seq.drop-cons, Seq.take-suc-set}
 use borrow.Author.Tests.{eq-eqb, ne-eqb, eqb-true, eqb-false}
 use Rattle.values.proofs.Held.{held, held-is}

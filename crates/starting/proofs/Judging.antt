@@ -1,14 +1,14 @@
 -- 13 to 16 in their order. Assumes nothing.
-use mathlib.Core.{Path._≡_, Path.refl, Path.sym, Path.ap, Path._∙_, Bool.Bool, Bool.true, Bool.false, List.List, List.[], List._∷_}
-use Prim.Native.Nat.{ℕ, zero, suc, _^_, _≤_, _<_}
+use mathlib.Core.{Path._≡_, Path.sym, Path.ap, Path._∙_, Bool.Bool, Bool.true, Bool.false, List.List, List.[]}
+use Prim.Native.Nat.{ℕ, _^_, _≤_, _<_}
 use native.Mathlib.Omega.{arith}
 use lib.{Dec.ltb, IntN.ℤ, IntN.pos, Signed.mag, ListN.length, ListN.getD}
 use borrow.Author.Tests.{eq-eqb, ne-eqb}
 use Rattle.values.proofs.Held.{held, held-is}
 use Rattle.model.specs.declared.{Image.Image, Verdict.Verdict, Verdict.the-variants.Accepted, Verdict.the-variants.Refused, Refusal.Refusal, Refusal.the-variants.StoreLength, Refusal.the-variants.ParameterCount, Refusal.the-variants.ParameterValue, Refusal.the-variants.ConditionFalse, Tested.Tested, Tested.the-variants.Holds, Tested.the-variants.Fails, Tested.the-variants.Unsure}
-use Rattle.model.specs.Answers.{variable, after, unless, lowest, each}
+use Rattle.model.specs.Answers.{variable, after, unless, lowest}
 use Rattle.model.specs.Values.{ofSize}
-use Rattle.model.specs.Image.{Tables, trailerOf, tablesOf, entryOf, typeOf, sizeOf}
+use Rattle.model.specs.Image.{Tables, tablesOf, entryOf, typeOf, sizeOf}
 use Rattle.model.specs.Rows.{expression, isRoot}
 use Rattle.model.specs.Decode.{initial, expressionAt}
 use Rattle.model.specs.Run.{slot, test}

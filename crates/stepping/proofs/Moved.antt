@@ -1,12 +1,12 @@
 -- What a step's answer says of the store and the label after it. Assumes nothing.
 use mathlib.Core.{Path._≡_, Path.refl, Path.sym, Path.ap, Path._∙_, List.List, List._++_}
-use Prim.Native.Nat.{ℕ, _+_, _*_, _-_, _^_, _≤_, _<_}
+use Prim.Native.Nat.{ℕ, _-_, _^_, _<_}
 use native.Mathlib.Omega.{arith}
-use lib.{IntN.ℤ, ListN.length, ListN.getD, ListN.drop}
-use Rattle.model.specs.declared.{State.State, Move.Move, Verdict.Verdict, Verdict.the-variants.Accepted, Verdict.the-variants.Refused, Refusal.Refusal, Stepped.Stepped, Stepped.the-variants.Moved, Stepped.the-variants.NotMoved, Outcome.Outcome, Outcome.the-variants.Ends, Outcome.the-variants.Jumps, Outcome.the-variants.Stops}
-use Rattle.model.specs.Image.{none, trailerOf, tablesOf}
+use lib.{IntN.ℤ, ListN.drop}
+use Rattle.model.specs.declared.{State.State, Move.Move, Verdict.Verdict, Verdict.the-variants.Accepted, Verdict.the-variants.Refused, Refusal.Refusal, Stepped.the-variants.Moved, Stepped.the-variants.NotMoved, Outcome.Outcome, Outcome.the-variants.Ends, Outcome.the-variants.Jumps, Outcome.the-variants.Stops}
+use Rattle.model.specs.Image.{tablesOf}
 use Rattle.model.specs.Decode.{act}
-use Rattle.model.specs.Run.{ε, labelWords, St, Res, gives, blockedAt, exec}
+use Rattle.model.specs.Run.{ε, labelWords, St, Res, gives, blockedAt}
 use Rattle.model.specs.Calls.{imageVerdict, stepVerdict, attempt, StepDone, stayed, movedAs, steppedAs, step}
 use Rattle.model.proofs.Order.{after-both}
 use Rattle.model.proofs.Passed.{passed}
@@ -16,7 +16,7 @@ use Rattle.demands.proofs.Whole.{whole}
 use Rattle.machine.proofs.Words.{exec-words, reads-action}
 use Rattle.stepping.specs.Stepping.{runVerdict, ran}
 use Rattle.image.proofs.Accepted.{accepted-located}
-use Rattle.stepping.proofs.Steps.{Left, left-over}
+use Rattle.stepping.proofs.Steps.{left-over}
 use Rattle.stepping.proofs.Trying.{root-of}
 
 -- by how a run ended

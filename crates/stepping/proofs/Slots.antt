@@ -1,6 +1,6 @@
 -- 18, slot by slot. Assumes nothing.
-use mathlib.Core.{Path._≡_, Path.refl, Path.sym, Path.ap, Path._∙_, Bool.Bool, Bool.true, Bool.false, Bool.not, Bool._||_, List.List}
-use Prim.Native.Nat.{ℕ, _+_, _-_, _/_, _^_, _≤_, _<_}
+use mathlib.Core.{Path._≡_, Path.sym, Path.ap, Path._∙_, Bool.Bool, Bool.true, Bool.false, Bool.not, Bool._||_, List.List}
+use Prim.Native.Nat.{ℕ, _+_, _^_, _≤_, _<_}
 use native.Mathlib.Omega.{arith}
 use lib.{Dec.eqb, Dec.leb, Dec.ltb, IntN.ℤ, IntN.pos, ListN.length, ListN.getD, Signed.mag}
 use mir.{Syntax.w32, Val.toZ, Val.ofZ}
@@ -9,7 +9,7 @@ use Rattle.model.specs.declared.{Image.Image, State.State, Verdict.Verdict, Ver
 use Rattle.model.specs.Answers.{variable, after, unless, lowest}
 use Rattle.model.proofs.Order.{after-accepted, after-refused, lowest-full, lowest-pass, each-full, each-refuses}
 use Rattle.model.specs.Values.{half16, mark, same, ofSize}
-use Rattle.model.specs.Image.{Tables, trailerOf, tablesOf, sizeOf, entryOf, typeOf, variableCount}
+use Rattle.model.specs.Image.{tablesOf, sizeOf, entryOf}
 use Rattle.model.specs.Run.{slot}
 use Rattle.model.specs.Calls.{slotOfType, slotFits}
 use Rattle.model.proofs.Values.{same-refl, same-ne}

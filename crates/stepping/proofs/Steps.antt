@@ -1,13 +1,12 @@
 -- A step that runs: what its refusals leave, and what is written back. Assumes nothing.
-use mathlib.Core.{Path._≡_, Path.refl, Path.sym, Path.ap, Path._∙_, Path.subst, Bool.true, List.List}
-use Prim.Native.Nat.{ℕ, _+_, _*_, _^_, _≤_, _<_}
+use mathlib.Core.{Path._≡_, Path.refl, Path.sym, Path.ap, Path._∙_, Bool.true, List.List}
+use Prim.Native.Nat.{ℕ, _^_, _≤_, _<_}
 use native.Mathlib.Omega.{arith}
 use lib.{Dec.eqb, Dec.leb, Dec.ltb, IntN.ℤ, ListN.length, ListN.getD}
 use borrow.Author.Tests.{ltb-true, leb-true, eqb-true}
-use Rattle.model.specs.declared.{Image.Image, State.State, Verdict.Verdict, Verdict.the-variants.Accepted, Verdict.the-variants.Refused, Refusal.Refusal, Refusal.the-variants.NoState, Refusal.the-variants.StoreLength, Refusal.the-variants.LabelShort, Refusal.the-variants.BudgetOver, Stepped.the-variants.NotMoved}
+use Rattle.model.specs.declared.{Image.Image, State.State, Verdict.Verdict, Verdict.the-variants.Accepted, Verdict.the-variants.Refused, Refusal.Refusal, Refusal.the-variants.NoState, Refusal.the-variants.StoreLength, Refusal.the-variants.LabelShort, Refusal.the-variants.BudgetOver}
 use Rattle.model.specs.Answers.{after, unless}
-use Rattle.model.specs.Image.{none, lengthFits, tablesOf, trailerOf}
-use Rattle.model.proofs.Rows.{both-true}
+use Rattle.model.specs.Image.{none, tablesOf}
 use Rattle.model.specs.Rows.{action, isKind}
 use Rattle.model.specs.Decode.{act}
 use Rattle.model.specs.Run.{ε, Res, exec}
@@ -15,12 +14,9 @@ use Rattle.model.specs.Calls.{imageVerdict, slotFits, stepVerdict, attempt, Ste
 use Rattle.model.proofs.Order.{after-accepted, after-refused, after-both, unless-true, each-all}
 use Rattle.model.proofs.Passed.{passed}
 use Rattle.model.proofs.Run.{exec-left}
-use Rattle.image.specs.Located.{Located}
 use Rattle.image.proofs.Laid.{laid, rows-count, variables-count}
-use Rattle.demands.specs.Statements.{AreBytes}
 use Rattle.demands.specs.Stores.{TypedStore}
 use Rattle.demands.proofs.Whole.{whole}
-use Rattle.expressions.specs.Ready.{Ready}
 use Rattle.machine.proofs.Words.{exec-words, reads-action}
 use Rattle.actions.specs.declared.{Ran.Ran}
 use Rattle.actions.specs.State.{resultOf}

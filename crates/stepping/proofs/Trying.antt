@@ -1,24 +1,20 @@
 -- The run that a step tries. Assumes nothing.
-use mathlib.Core.{Path._≡_, Path.refl, Path.sym, Path.ap, Path._∙_, Bool.true, Bool.false, List.List}
-use Prim.Native.Nat.{ℕ, _+_, _*_, _≤_, _<_}
+use mathlib.Core.{Path._≡_, Path.ap, Path._∙_, Bool.true, Bool.false, List.List}
+use Prim.Native.Nat.{ℕ, _<_}
 use native.Mathlib.Omega.{arith}
 use lib.{Dec.ltb, IntN.ℤ, ListN.length, ListN.getD}
 use Rattle.model.specs.declared.{Image.Image, Outcome.Outcome, Verdict.the-variants.Accepted}
-use Rattle.model.specs.Image.{none, trailerOf, tablesOf}
+use Rattle.model.specs.Image.{none, tablesOf}
 use Rattle.model.specs.Rows.{action, isRoot, isKind}
 use Rattle.model.specs.Decode.{actionAt}
 use Rattle.model.specs.Run.{Res, exec}
 use Rattle.model.specs.Calls.{imageVerdict, attempt}
 use Rattle.model.proofs.Rows.{both-true}
 use Rattle.model.proofs.Passed.{passed}
-use Rattle.model.proofs.Run.{exec-left}
 use Rattle.image.specs.Located.{StateOf}
-use Rattle.image.proofs.Laid.{states-count, rows-count, laid}
-use Rattle.demands.proofs.Whole.{whole}
+use Rattle.image.proofs.Laid.{states-count}
 use Rattle.machine.specs.Running.{Running}
-use Rattle.machine.proofs.Words.{exec-words, reads-action}
-use Rattle.actions.specs.declared.{Run.Run, Ran.Ran}
-use Rattle.actions.specs.State.{stateOf, resultOf}
+use Rattle.actions.specs.State.{stateOf}
 use Rattle.stepping.specs.Stepping.{Trying}
 use Rattle.stages.proofs.Cleared.{located}
 

@@ -6,7 +6,7 @@ use Rattle.model.specs.declared.{Image.Image, State.State, Verdict.Verdict, Ver
 use Rattle.model.specs.Limits.{limits}
 use Rattle.model.specs.Answers.{variable, after, unless, each}
 use Rattle.model.specs.Image.{Tables, none, tablesOf}
-use Rattle.model.specs.Calls.{slotFits, StepDone, movedAs, steppedAs, attempt}
+use Rattle.model.specs.Calls.{slotFits, StepDone, movedAs, attempt}
 use Rattle.expressions.specs.Ready.{Ready}
 use Rattle.stages.specs.Judging.{Cleared}
 

@@ -2,10 +2,6 @@ use borrow.Author.Needs.{needs}
 use Rattle.finishing.proofs.Told.{told-ends, told-stops, told-jumps}
 use Rattle.finishing.proofs.finish.Statement.{statement}
 use Rattle.finishing.proofs.finish.Tie as tie
-use Rattle.finishing.proofs.finish.Reads as reads
-use Rattle.finishing.proofs.finish.Lts as lts
-use Rattle.actions.proofs.blocked_at.Reads as blocked-at-reads
-use Rattle.finishing.proofs.put_label.Reads as put-label-reads
 
 enum-told : tie.Need-enum-told
 enum-told c = search needs

@@ -3,8 +3,6 @@ use native.Mathlib.Omega.{arith}
 use Rattle.finishing.proofs.Words.{word-none, word-rest, word-gate, word-eight, word-count, word-value, word-after}
 use Rattle.finishing.proofs.label_word.Statement.{statement}
 use Rattle.finishing.proofs.label_word.Tie as tie
-use Rattle.finishing.proofs.label_word.Reads as reads
-use Rattle.finishing.proofs.label_word.Lts as lts
 
 returns : tie.Need-returns
 returns c = word-none (c .before .before .before .args .run) (c .before .before .before .args .values .now) (c .before .before .before .args .k) (c .before .if1 .taken) (c .if2 .taken)

@@ -9,9 +9,6 @@ use Rattle.words.proofs.Copied.{copied-held, copied-front}
 use Rattle.finishing.proofs.Words.{words-ten}
 use Rattle.finishing.proofs.put_label.Statement.{statement}
 use Rattle.finishing.proofs.put_label.Tie as tie
-use Rattle.finishing.proofs.put_label.Reads as reads
-use Rattle.finishing.proofs.put_label.Lts as lts
-use Rattle.finishing.proofs.label_word.Reads as label-word-reads
 
 abbrev Inv-loop : tie.InvT-loop
 Inv-loop label₀ values run k₀ label k = (k ≤ 10) × (length label ≡ length label₀) × (label ≡ take k (labelWords (labelOf run values)) ++ drop k label₀)

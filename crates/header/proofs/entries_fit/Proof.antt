@@ -1,15 +1,10 @@
 use borrow.Author.Needs.{needs}
 use native.Mathlib.Omega.{arith}
-use mathlib.Core.{Path._≡_, Path.refl, Path.sym, Path.ap, Path._∙_}
 use Rattle.header.proofs.Laws.{Entered, entered-begin, entered-type, entered-parameter, entered-next, entered-done}
 use Prim.Native.Nat.{_-_}
 use Rattle.image.proofs.Laid.{variables-count}
 use Rattle.header.proofs.entries_fit.Statement.{statement}
 use Rattle.header.proofs.entries_fit.Tie as tie
-use Rattle.header.proofs.entries_fit.Reads as reads
-use Rattle.header.proofs.entries_fit.Lts as lts
-use Rattle.image.proofs.parameter.Reads as parameter-reads
-use Rattle.image.proofs.variable_type.Reads as variable-type-reads
 
 abbrev Inv-loop : tie.InvT-loop
 Inv-loop image i types n v₀ v = Entered image v

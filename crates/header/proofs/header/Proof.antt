@@ -1,17 +1,8 @@
 use borrow.Author.Needs.{needs}
 use native.Mathlib.Omega.{arith}
-use mathlib.Core.{Path._≡_, Path.refl, Path.sym, Path.ap, Path._∙_}
 use Rattle.header.proofs.Laws.{passes, fails, long-enough, located, trailer-long, header-1, header-2, header-3, header-4, header-5, header-6}
 use Rattle.header.proofs.header.Statement.{statement}
 use Rattle.header.proofs.header.Tie as tie
-use Rattle.header.proofs.header.Reads as reads
-use Rattle.header.proofs.header.Lts as lts
-use Rattle.header.proofs.entries_fit.Reads as entries-fit-reads
-use Rattle.header.proofs.length_fits.Reads as length-fits-reads
-use Rattle.header.proofs.marked.Reads as marked-reads
-use Rattle.header.proofs.sizes_fit.Reads as sizes-fit-reads
-use Rattle.header.proofs.starts_fit.Reads as starts-fit-reads
-use Rattle.image.proofs.trailer.Reads as trailer-reads
 
 length-fits-requires : tie.Need-length-fits-requires
 length-fits-requires c κs = search needs

@@ -1,11 +1,7 @@
 use borrow.Author.Needs.{needs}
-use native.Mathlib.Omega.{arith}
-use mathlib.Core.{Path._≡_, Path.refl, Path.sym, Path.ap, Path._∙_}
 use Rattle.header.proofs.Laws.{short, not-short}
 use Rattle.header.proofs.length_fits.Statement.{statement}
 use Rattle.header.proofs.length_fits.Tie as tie
-use Rattle.header.proofs.length_fits.Reads as reads
-use Rattle.header.proofs.length_fits.Lts as lts
 
 cast-if1 : tie.Need-cast-if1
 cast-if1 c = search needs

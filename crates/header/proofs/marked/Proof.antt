@@ -1,12 +1,8 @@
 use borrow.Author.Needs.{needs}
 use native.Mathlib.Omega.{arith}
-use mathlib.Core.{Path._≡_, Path.refl, Path.sym, Path.ap, Path._∙_}
 use Rattle.header.proofs.Laws.{long-enough, mark-first, mark-second, mark-length}
-use Prim.Native.Nat.{ℕ}
 use Rattle.header.proofs.marked.Statement.{statement}
 use Rattle.header.proofs.marked.Tie as tie
-use Rattle.header.proofs.marked.Reads as reads
-use Rattle.header.proofs.marked.Lts as lts
 
 sub-if1 : tie.Need-sub-if1
 sub-if1 c = omega (arith, long-enough _ (c .pre .0))

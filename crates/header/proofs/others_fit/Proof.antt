@@ -1,14 +1,10 @@
 use borrow.Author.Needs.{needs}
 use native.Mathlib.Omega.{arith}
-use mathlib.Core.{Path._≡_, Path.refl, Path.sym, Path.ap, Path._∙_}
 use Rattle.header.proofs.Laws.{Others, others-begin, others-low, others-high, others-next, others-done}
 use Prim.Native.Nat.{_-_}
 use Rattle.image.proofs.Laid.{types-count}
 use Rattle.header.proofs.others_fit.Statement.{statement}
 use Rattle.header.proofs.others_fit.Tie as tie
-use Rattle.header.proofs.others_fit.Reads as reads
-use Rattle.header.proofs.others_fit.Lts as lts
-use Rattle.image.proofs.size.Reads as size-reads
 
 abbrev Inv-loop : tie.InvT-loop
 Inv-loop image i n t₀ t = Others image t

@@ -1,13 +1,7 @@
 use borrow.Author.Needs.{needs}
-use native.Mathlib.Omega.{arith}
-use mathlib.Core.{Path._≡_, Path.refl, Path.sym, Path.ap, Path._∙_}
 use Rattle.header.proofs.Laws.{bool-type, int-type, sizes-bool, sizes-int, sizes-others}
 use Rattle.header.proofs.sizes_fit.Statement.{statement}
 use Rattle.header.proofs.sizes_fit.Tie as tie
-use Rattle.header.proofs.sizes_fit.Reads as reads
-use Rattle.header.proofs.sizes_fit.Lts as lts
-use Rattle.header.proofs.others_fit.Reads as others-fit-reads
-use Rattle.image.proofs.size.Reads as size-reads
 
 size-requires : tie.Need-size-requires
 size-requires c κs = bool-type (c .before .pre)

@@ -1,14 +1,10 @@
 use borrow.Author.Needs.{needs}
-use native.Mathlib.Omega.{arith}
-use mathlib.Core.{Path._≡_, Path.refl, Path.sym, Path.ap, Path._∙_}
+use mathlib.Core.{Path.refl}
 use Rattle.header.proofs.Laws.{passes, fails, chain-1, chain-2, chain-last}
 use borrow.Author.Tests.{eq-eqb, ne-eqb, le-leb, lt-leb}
 use Rattle.model.specs.Image.{startsFit}
 use Rattle.header.proofs.starts_fit.Statement.{statement}
 use Rattle.header.proofs.starts_fit.Tie as tie
-use Rattle.header.proofs.starts_fit.Reads as reads
-use Rattle.header.proofs.starts_fit.Lts as lts
-use Rattle.header.proofs.table_fits.Reads as table-fits-reads
 
 returns : tie.Need-returns
 unfolding startsFit

@@ -1,11 +1,7 @@
 use borrow.Author.Needs.{needs}
-use native.Mathlib.Omega.{arith}
-use mathlib.Core.{Path._≡_, Path.refl, Path.sym, Path.ap, Path._∙_}
 use Rattle.header.proofs.Laws.{table-order, table-part, table-few, table-many}
 use Rattle.header.proofs.table_fits.Statement.{statement}
 use Rattle.header.proofs.table_fits.Tie as tie
-use Rattle.header.proofs.table_fits.Reads as reads
-use Rattle.header.proofs.table_fits.Lts as lts
 
 returns : tie.Need-returns
 returns c = table-order _ _ _ _ _ (c .if1 .taken)

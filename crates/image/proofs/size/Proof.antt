@@ -1,13 +1,9 @@
 use borrow.Author.Needs.{needs}
 use native.Mathlib.Omega.{arith}
-use Rattle.model.specs.declared.{Fields.Fields}
-use Rattle.image.proofs.Laid.{row-inside, row-read, type-inside, type-read, variable-inside, variable-read, state-inside, state-read}
-use mathlib.Core.{Path._≡_, Path.refl, Path.sym, Path.ap, Path._∙_}
+use Rattle.image.proofs.Laid.{type-inside, type-read}
+use mathlib.Core.{Path.sym, Path._∙_}
 use Rattle.image.proofs.size.Statement.{statement}
 use Rattle.image.proofs.size.Tie as tie
-use Rattle.image.proofs.size.Reads as reads
-use Rattle.image.proofs.size.Lts as lts
-use Rattle.words.proofs.half.Reads as half-reads
 
 mul-at : tie.Need-mul-at
 mul-at c = search needs

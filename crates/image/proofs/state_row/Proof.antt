@@ -1,13 +1,9 @@
 use borrow.Author.Needs.{needs}
 use native.Mathlib.Omega.{arith}
-use Rattle.model.specs.declared.{Fields.Fields}
-use Rattle.image.proofs.Laid.{row-inside, row-read, type-inside, type-read, variable-inside, variable-read, state-inside, state-read}
-use mathlib.Core.{Path._≡_, Path.refl, Path.sym, Path.ap, Path._∙_}
+use Rattle.image.proofs.Laid.{state-inside, state-read}
+use mathlib.Core.{Path.sym, Path._∙_}
 use Rattle.image.proofs.state_row.Statement.{statement}
 use Rattle.image.proofs.state_row.Tie as tie
-use Rattle.image.proofs.state_row.Reads as reads
-use Rattle.image.proofs.state_row.Lts as lts
-use Rattle.words.proofs.half.Reads as half-reads
 
 cast-at : tie.Need-cast-at
 cast-at c = search needs

@@ -1,14 +1,7 @@
 use borrow.Author.Needs.{needs}
-use native.Mathlib.Omega.{arith}
 use Rattle.model.specs.Image.{trailerOf}
-use Rattle.model.specs.declared.{Fields.Fields}
-use Rattle.image.proofs.Laid.{row-inside, row-read, type-inside, type-read, variable-inside, variable-read, state-inside, state-read}
-use mathlib.Core.{Path._≡_, Path.refl, Path.sym, Path.ap, Path._∙_}
 use Rattle.image.proofs.trailer.Statement.{statement}
 use Rattle.image.proofs.trailer.Tie as tie
-use Rattle.image.proofs.trailer.Reads as reads
-use Rattle.image.proofs.trailer.Lts as lts
-use Rattle.words.proofs.half.Reads as half-reads
 
 sub-at : tie.Need-sub-at
 sub-at c = search needs

@@ -1,14 +1,10 @@
 use borrow.Author.Needs.{needs}
 use native.Mathlib.Omega.{arith}
 use Rattle.model.specs.Image.{Entry}
-use Rattle.model.specs.declared.{Fields.Fields}
-use Rattle.image.proofs.Laid.{row-inside, row-read, type-inside, type-read, variable-inside, variable-read, state-inside, state-read}
-use mathlib.Core.{Path._≡_, Path.refl, Path.sym, Path.ap, Path._∙_}
+use Rattle.image.proofs.Laid.{variable-inside, variable-read}
+use mathlib.Core.{Path.sym, Path.ap, Path._∙_}
 use Rattle.image.proofs.variable_type.Statement.{statement}
 use Rattle.image.proofs.variable_type.Tie as tie
-use Rattle.image.proofs.variable_type.Reads as reads
-use Rattle.image.proofs.variable_type.Lts as lts
-use Rattle.words.proofs.half.Reads as half-reads
 
 cast-at : tie.Need-cast-at
 cast-at c = search needs

@@ -3,12 +3,6 @@ use native.Mathlib.Omega.{arith}
 use Rattle.ntif.proofs.Checking.{accepted-trailer, accepted-rooted, accepted-fits, accepted-most, bytes-refused, bytes-accepted}
 use Rattle.ntif.proofs.check_bytes_on.Statement.{statement}
 use Rattle.ntif.proofs.check_bytes_on.Tie as tie
-use Rattle.ntif.proofs.check_bytes_on.Reads as reads
-use Rattle.ntif.proofs.check_bytes_on.Lts as lts
-use Rattle.image.proofs.trailer.Reads as trailer-reads
-use Rattle.ntif.proofs.pack_verdict.Reads as pack-verdict-reads
-use Rattle.stages.proofs.judge.Reads as judge-reads
-use Rattle.words.proofs.put_masks.Reads as put-masks-reads
 
 judge-requires : tie.Need-judge-requires
 judge-requires c κs = search needs

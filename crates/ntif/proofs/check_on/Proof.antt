@@ -3,11 +3,6 @@ use native.Mathlib.Omega.{arith}
 use Rattle.ntif.proofs.Checking.{accepted-trailer, accepted-rooted, accepted-fits, accepted-most, checked-refused, checked-accepted}
 use Rattle.ntif.proofs.check_on.Statement.{statement}
 use Rattle.ntif.proofs.check_on.Tie as tie
-use Rattle.ntif.proofs.check_on.Reads as reads
-use Rattle.ntif.proofs.check_on.Lts as lts
-use Rattle.image.proofs.trailer.Reads as trailer-reads
-use Rattle.ntif.proofs.copy.Reads as copy-reads
-use Rattle.stages.proofs.judge.Reads as judge-reads
 
 judge-requires : tie.Need-judge-requires
 judge-requires c κs = search needs

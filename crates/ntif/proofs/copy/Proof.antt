@@ -6,8 +6,6 @@ use lib.ListN.{length, take, drop, length-set}
 use Rattle.words.proofs.Copied.{copied-step}
 use Rattle.ntif.proofs.copy.Statement.{statement}
 use Rattle.ntif.proofs.copy.Tie as tie
-use Rattle.ntif.proofs.copy.Reads as reads
-use Rattle.ntif.proofs.copy.Lts as lts
 
 abbrev Inv-loop : tie.InvT-loop
 Inv-loop sets₀ masks count i₀ sets i = (i ≤ count) × (length sets ≡ length sets₀) × (sets ≡ take i masks ++ drop i sets₀)

@@ -4,10 +4,6 @@ use mathlib.Core.Path.{sym, _∙_}
 use native.Mathlib.Omega.{arith}
 use Rattle.ntif.proofs.ntif_step.Statement.{statement}
 use Rattle.ntif.proofs.ntif_step.Tie as tie
-use Rattle.ntif.proofs.ntif_step.Reads as reads
-use Rattle.ntif.proofs.ntif_step.Lts as lts
-use Rattle.ntif.proofs.capped.Reads as capped-reads
-use Rattle.ntif.proofs.step_bytes_on.Reads as step-bytes-on-reads
 
 capped-requires : tie.Need-capped-requires
 capped-requires c κs = search needs

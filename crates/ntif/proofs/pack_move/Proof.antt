@@ -1,8 +1,6 @@
 use borrow.Author.Needs.{needs}
 use Rattle.ntif.proofs.pack_move.Statement.{statement}
 use Rattle.ntif.proofs.pack_move.Tie as tie
-use Rattle.ntif.proofs.pack_move.Reads as reads
-use Rattle.ntif.proofs.pack_move.Lts as lts
 
 cast-next : tie.Need-cast-next
 cast-next c = search needs

@@ -4,8 +4,6 @@ use native.Mathlib.Omega.{arith}
 use Rattle.model.specs.Answers.{state}
 use Rattle.ntif.proofs.state_of.Statement.{statement}
 use Rattle.ntif.proofs.state_of.Tie as tie
-use Rattle.ntif.proofs.state_of.Reads as reads
-use Rattle.ntif.proofs.state_of.Lts as lts
 
 cast-t3 : tie.Need-cast-t3
 cast-t3 c = search needs

@@ -1,5 +1,5 @@
 use borrow.Author.Needs.{needs}
-use mathlib.Core.Path.{_≡_, refl, ap, _∙_}
+use mathlib.Core.Path.{refl, ap, _∙_}
 use native.Mathlib.Omega.{arith}
 use lib.ListN.{length}
 use Rattle.model.specs.declared.{State.State}
@@ -7,14 +7,6 @@ use Rattle.model.specs.Calls.{step}
 use Rattle.ntif.proofs.Stepped.{read-of, bytes-refused, words-few, bytes-moved}
 use Rattle.ntif.proofs.step_bytes_on.Statement.{statement}
 use Rattle.ntif.proofs.step_bytes_on.Tie as tie
-use Rattle.ntif.proofs.step_bytes_on.Reads as reads
-use Rattle.ntif.proofs.step_bytes_on.Lts as lts
-use Rattle.ntif.proofs.pack_move.Reads as pack-move-reads
-use Rattle.ntif.proofs.pack_refusal.Reads as pack-refusal-reads
-use Rattle.ntif.proofs.state_of.Reads as state-of-reads
-use Rattle.stepping.proofs.take_step.Reads as take-step-reads
-use Rattle.words.proofs.get_words.Reads as get-words-reads
-use Rattle.words.proofs.put_words.Reads as put-words-reads
 
 get-words-requires : tie.Need-get-words-requires
 get-words-requires c κs = search needs

@@ -1,12 +1,7 @@
 use borrow.Author.Needs.{needs}
-use mathlib.Core.{Path._≡_, Path.refl, Path.sym, Path.ap, Path._∙_}
-use Rattle.stages.proofs.Stages.{flow-stays, flow-speech, to-speech}
+use Rattle.stages.proofs.Stages.{flow-stays, flow-speech}
 use Rattle.stages.proofs.flow.Statement.{statement}
 use Rattle.stages.proofs.flow.Tie as tie
-use Rattle.stages.proofs.flow.Reads as reads
-use Rattle.stages.proofs.flow.Lts as lts
-use Rattle.stages.proofs.found.Reads as found-reads
-use Rattle.speech.proofs.speech_verdict.Reads as speech-verdict-reads
 
 found-requires : tie.Need-found-requires
 found-requires c κs = search needs

@@ -1,11 +1,7 @@
 use borrow.Author.Needs.{needs}
-use mathlib.Core.{Path._≡_, Path.refl, Path.sym, Path.ap, Path._∙_}
 use Rattle.stages.proofs.Stages.{found-short, found-sets, to-sets}
 use Rattle.stages.proofs.found.Statement.{statement}
 use Rattle.stages.proofs.found.Tie as tie
-use Rattle.stages.proofs.found.Reads as reads
-use Rattle.stages.proofs.found.Lts as lts
-use Rattle.sets.proofs.sets_verdict.Reads as sets-verdict-reads
 
 state-count-requires : tie.Need-state-count-requires
 state-count-requires c κs = c .before .before .before .before .before .pre .rooted .formed .located

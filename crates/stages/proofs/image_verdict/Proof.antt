@@ -2,11 +2,6 @@ use borrow.Author.Needs.{needs}
 use Rattle.stages.proofs.Stages.{trailer-there, rooted-there, to-ruling, image-stays, image-rules}
 use Rattle.stages.proofs.image_verdict.Statement.{statement}
 use Rattle.stages.proofs.image_verdict.Tie as tie
-use Rattle.stages.proofs.image_verdict.Reads as reads
-use Rattle.stages.proofs.image_verdict.Lts as lts
-use Rattle.image.proofs.trailer.Reads as trailer-reads
-use Rattle.stages.proofs.rules_sized.Reads as rules-sized-reads
-use Rattle.stages.proofs.tables.Reads as tables-reads
 
 tables-requires : tie.Need-tables-requires
 tables-requires c κs = search needs

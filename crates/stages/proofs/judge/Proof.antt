@@ -2,11 +2,6 @@ use borrow.Author.Needs.{needs}
 use Rattle.stages.proofs.Stages.{trailer-there, rooted-there, to-sized, judge-stays, judge-trees}
 use Rattle.stages.proofs.judge.Statement.{statement}
 use Rattle.stages.proofs.judge.Tie as tie
-use Rattle.stages.proofs.judge.Reads as reads
-use Rattle.stages.proofs.judge.Lts as lts
-use Rattle.image.proofs.trailer.Reads as trailer-reads
-use Rattle.stages.proofs.sized.Reads as sized-reads
-use Rattle.stages.proofs.tables.Reads as tables-reads
 
 tables-requires : tie.Need-tables-requires
 tables-requires c κs = search needs

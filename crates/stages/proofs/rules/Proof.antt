@@ -1,13 +1,8 @@
 use borrow.Author.Needs.{needs}
-use mathlib.Core.{Path._≡_, Path.refl, Path.sym, Path.ap, Path._∙_}
+use mathlib.Core.{Path.sym, Path._∙_}
 use Rattle.stages.proofs.Stages.{rules-stays, rules-binding}
 use Rattle.stages.proofs.rules.Statement.{statement}
 use Rattle.stages.proofs.rules.Tie as tie
-use Rattle.stages.proofs.rules.Reads as reads
-use Rattle.stages.proofs.rules.Lts as lts
-use Rattle.binding.proofs.binding_verdict.Reads as binding-verdict-reads
-use Rattle.masks.proofs.fill.Reads as fill-reads
-use Rattle.typing.proofs.typing_verdict.Reads as typing-verdict-reads
 
 fill-requires : tie.Need-fill-requires
 fill-requires c κs = search needs

@@ -1,13 +1,8 @@
 use borrow.Author.Needs.{needs}
-use mathlib.Core.{Path._≡_, Path.refl, Path.sym, Path.ap, Path._∙_}
+use mathlib.Core.{Path.sym, Path._∙_}
 use Rattle.stages.proofs.Stages.{trailer-inside, located-of, tables-stays, tables-rows}
 use Rattle.stages.proofs.tables.Statement.{statement}
 use Rattle.stages.proofs.tables.Tie as tie
-use Rattle.stages.proofs.tables.Reads as reads
-use Rattle.stages.proofs.tables.Lts as lts
-use Rattle.header.proofs.header.Reads as header-reads
-use Rattle.image.proofs.trailer.Reads as trailer-reads
-use Rattle.rows.proofs.rows_verdict.Reads as rows-verdict-reads
 
 header-requires : tie.Need-header-requires
 header-requires c κs = search needs

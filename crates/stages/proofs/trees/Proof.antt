@@ -1,12 +1,7 @@
 use borrow.Author.Needs.{needs}
-use mathlib.Core.{Path._≡_, Path.refl, Path.sym, Path.ap, Path._∙_}
 use Rattle.stages.proofs.Stages.{trees-stays, trees-flow}
 use Rattle.stages.proofs.trees.Statement.{statement}
 use Rattle.stages.proofs.trees.Tie as tie
-use Rattle.stages.proofs.trees.Reads as reads
-use Rattle.stages.proofs.trees.Lts as lts
-use Rattle.stages.proofs.flow.Reads as flow-reads
-use Rattle.stages.proofs.rules.Reads as rules-reads
 
 rules-requires : tie.Need-rules-requires
 rules-requires c κs = search needs

@@ -5,9 +5,6 @@ use lib.ListN.{length-take}
 use Rattle.stepping.proofs.Steps.{store-few, to-steps}
 use Rattle.stepping.proofs.run_step.Statement.{statement}
 use Rattle.stepping.proofs.run_step.Tie as tie
-use Rattle.stepping.proofs.run_step.Reads as reads
-use Rattle.stepping.proofs.run_step.Lts as lts
-use Rattle.stepping.proofs.step_on.Reads as step-on-reads
 
 array-borrow-prefix-work : tie.Need-array-borrow-prefix-work
 array-borrow-prefix-work c =

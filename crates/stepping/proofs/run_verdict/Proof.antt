@@ -5,9 +5,6 @@ use Rattle.stages.proofs.Cleared.{located}
 use Rattle.stepping.proofs.Slots.{no-state, store-wrong, slotted, slot-wrong, label-short, budget-over, nothing-wrong}
 use Rattle.stepping.proofs.run_verdict.Statement.{statement}
 use Rattle.stepping.proofs.run_verdict.Tie as tie
-use Rattle.stepping.proofs.run_verdict.Reads as reads
-use Rattle.stepping.proofs.run_verdict.Lts as lts
-use Rattle.stepping.proofs.slots_verdict.Reads as slots-verdict-reads
 
 state-count-requires : tie.Need-state-count-requires
 state-count-requires c κs =

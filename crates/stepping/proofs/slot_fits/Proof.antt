@@ -3,11 +3,6 @@ use mathlib.Core.Path.{refl}
 use Rattle.stepping.proofs.Slots.{variable-there, type-there, slot-undefined, slot-judged}
 use Rattle.stepping.proofs.slot_fits.Statement.{statement}
 use Rattle.stepping.proofs.slot_fits.Tie as tie
-use Rattle.stepping.proofs.slot_fits.Reads as reads
-use Rattle.stepping.proofs.slot_fits.Lts as lts
-use Rattle.image.proofs.size.Reads as size-reads
-use Rattle.image.proofs.variable_type.Reads as variable-type-reads
-use Rattle.values.proofs.of_size.Reads as of-size-reads
 
 mul-z : tie.Need-mul-z
 mul-z c = search needs

@@ -1,6 +1,6 @@
 use borrow.Author.Needs.{needs}
 use mathlib.Core.Path.{_≡_}
-use Prim.Native.Nat.{_-_, _/_, _≤_}
+use Prim.Native.Nat.{_-_, _≤_}
 use native.Mathlib.Omega.{arith}
 use Rattle.model.specs.Answers.{lowest}
 use Rattle.model.specs.Image.{tablesOf}
@@ -9,9 +9,6 @@ use Rattle.stages.proofs.Cleared.{located}
 use Rattle.stepping.proofs.Slots.{none-yet, one-more, wrong-here, all-fit}
 use Rattle.stepping.proofs.slots_verdict.Statement.{statement}
 use Rattle.stepping.proofs.slots_verdict.Tie as tie
-use Rattle.stepping.proofs.slots_verdict.Reads as reads
-use Rattle.stepping.proofs.slots_verdict.Lts as lts
-use Rattle.stepping.proofs.slot_fits.Reads as slot-fits-reads
 
 abbrev Inv-loop : tie.InvT-loop
 Inv-loop image i store n v₀ v =

@@ -5,11 +5,6 @@ use Rattle.stepping.proofs.Trying.{state-there}
 use Rattle.stepping.proofs.Steps.{to-try, units-fit, words-fit, label-there, ran-is}
 use Rattle.stepping.proofs.step_on.Statement.{statement}
 use Rattle.stepping.proofs.step_on.Tie as tie
-use Rattle.stepping.proofs.step_on.Reads as reads
-use Rattle.stepping.proofs.step_on.Lts as lts
-use Rattle.finishing.proofs.finish.Reads as finish-reads
-use Rattle.image.proofs.state_row.Reads as state-row-reads
-use Rattle.stepping.proofs.try_step.Reads as try-step-reads
 
 copy-requires : tie.Need-copy-requires
 copy-requires c κs = search needs

@@ -5,12 +5,6 @@ use Rattle.stages.proofs.Cleared.{cleared-long, to-cleared}
 use Rattle.stepping.proofs.Steps.{to-runs, image-refuses, run-refuses, step-runs}
 use Rattle.stepping.proofs.take_step.Statement.{statement}
 use Rattle.stepping.proofs.take_step.Tie as tie
-use Rattle.stepping.proofs.take_step.Reads as reads
-use Rattle.stepping.proofs.take_step.Lts as lts
-use Rattle.image.proofs.trailer.Reads as trailer-reads
-use Rattle.stages.proofs.image_verdict.Reads as image-verdict-reads
-use Rattle.stepping.proofs.run_step.Reads as run-step-reads
-use Rattle.stepping.proofs.run_verdict.Reads as run-verdict-reads
 
 image-verdict-requires : tie.Need-image-verdict-requires
 image-verdict-requires c κs = search needs

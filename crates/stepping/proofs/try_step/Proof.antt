@@ -3,13 +3,6 @@ use native.Mathlib.Omega.{arith}
 use Rattle.stepping.proofs.Trying.{state-there, runs-there, tried}
 use Rattle.stepping.proofs.try_step.Statement.{statement}
 use Rattle.stepping.proofs.try_step.Tie as tie
-use Rattle.stepping.proofs.try_step.Reads as reads
-use Rattle.stepping.proofs.try_step.Lts as lts
-use Rattle.image.proofs.state_row.Reads as state-row-reads
-use Rattle.machine.proofs.run_action.Reads as run-action-reads
-use Rattle.told.proofs.outcome.Reads as outcome-reads
-use Rattle.told.proofs.put.Reads as put-reads
-use Rattle.told.proofs.taken.Reads as taken-reads
 
 -- src/lib.rt:117:9
 slice-aggregate-put : tie.Need-slice-aggregate-put

@@ -1,8 +1,6 @@
 use borrow.Author.Needs.{needs}
 use Rattle.model.proofs.Refusal.place.Statement.{statement}
 use Rattle.model.proofs.Refusal.place.Tie as tie
-use Rattle.model.proofs.Refusal.place.Reads as reads
-use Rattle.model.proofs.Refusal.place.Lts as lts
 
 enum-told : tie.Need-enum-told
 enum-told c = search needs
