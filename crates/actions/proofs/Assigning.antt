@@ -1,5 +1,5 @@
 -- The ways of an assignment, and that the order of storing can't be seen. Assumes nothing.
-use mathlib.Core.{Path._≡_, Path.refl, Path.sym, Path.ap, Path._∙_, Path.subst, Bool.Bool, Bool.true, Bool.false, List.List, List.[], List._∷_, List.map}
+use mathlib.Core.{Path._≡_, Path.refl, Path.sym, Path.ap, Path._∙_, Bool.Bool, Bool.true, Bool.false, List.List, List.[], List._∷_}
 use Prim.Native.Nat.{ℕ, _+_, _%_, _<_}
 use native.Mathlib.Omega.{arith}
 use lib.{IntN.ℤ, ListN.length, ListN.set}
@@ -9,7 +9,7 @@ use Rattle.model.specs.Answers.{variable}
 use Rattle.model.specs.Image.{Tables, none, tablesOf, fieldsOf}
 use Rattle.model.specs.Rows.{expression, gets, another, nextOf}
 use Rattle.model.specs.Trees.{Gets}
-use Rattle.model.specs.Decode.{expressionAt, listAt, getsAt}
+use Rattle.model.specs.Decode.{expressionAt, getsAt}
 use Rattle.model.specs.Run.{store, eval}
 use Rattle.model.proofs.Rows.{Row, row-is, is-kind}
 use Rattle.model.proofs.Codes.{next-is}

@@ -1,19 +1,19 @@
 -- An action's row and what its fields name; any's condition. Assumes nothing.
 use mathlib.Core.Logic.{_⊎_, inl, inr, ⊎-elim}
 use mathlib.Core.{Path._≡_, Path.refl, Path.sym, Path.ap, Path._∙_, Path.subst, Bool.Bool, Bool.true, Bool.false, Bool.cond, List.List, List.[], List._∷_, List.map}
-use Prim.Native.Nat.{ℕ, suc}
+use Prim.Native.Nat.{ℕ}
 use lib.IntN.{ℤ}
 use borrow.Author.Tests.{ne-eqb, eq-eqb}
 use Rattle.model.specs.declared.{Image.Image, Fields.Fields, Tested.Tested, Tested.the-variants.Holds, Tested.the-variants.Fails, Tested.the-variants.Unsure, Refusal.Refusal, Refusal.the-variants.Blocked, Refusal.the-variants.BlockedSpoken, Refusal.the-variants.Undefined, Outcome.Outcome, Outcome.the-variants.Ends, Outcome.the-variants.Jumps, Outcome.the-variants.Stops}
 use Rattle.model.specs.Answers.{row}
 use Rattle.model.specs.Masks.{bit}
 use Rattle.model.specs.Values.{half16}
-use Rattle.model.specs.Image.{Tables, none, trailerOf, tablesOf, fieldsOf, sizeOf}
-use Rattle.model.specs.Rows.{Kind, expression, gets, ofType, item, action, ActionRow, isAssign, isChoose, Means, anAction, codes, lookup, shapeOf, meansAt, isKind}
-use Rattle.model.specs.Trees.{Exp, Gets, OfType, Act, assign, choose, at}
-use Rattle.model.specs.Decode.{growAction, actionAt, actOf, expressionAt, conditionAt, always, getsAt, ofTypesAt}
+use Rattle.model.specs.Image.{Tables, none, trailerOf, tablesOf, sizeOf}
+use Rattle.model.specs.Rows.{Kind, expression, gets, ActionRow, isAssign, isChoose, anAction, codes, lookup, shapeOf, meansAt, isKind}
+use Rattle.model.specs.Trees.{Exp, OfType, at}
+use Rattle.model.specs.Decode.{growAction, actionAt, expressionAt, conditionAt, always, getsAt, ofTypesAt}
 use Rattle.model.specs.Binding.{boundAct, distinct}
-use Rattle.model.specs.Run.{test, eval, store, spoken, St, Res, gives, stored, blockedAt, blocked, tested, andThen, readingOf, assigning, choosing}
+use Rattle.model.specs.Run.{test, eval, store, spoken, St, Res, stored, blockedAt, andThen, assigning, choosing}
 use Rattle.model.proofs.Rows.{Named, Row, row-is}
 use Rattle.model.proofs.Codes.{means}
 use Rattle.model.proofs.Decode.{actionAt-is}
@@ -27,11 +27,10 @@ use Rattle.demands.proofs.All.{All, nil, cons}
 use Rattle.demands.proofs.Good.{GoodOfType, Good, GoodAct}
 use Rattle.demands.proofs.GoodRows.{good-action}
 use Rattle.demands.proofs.Whole.{Whole}
-use Rattle.demands.proofs.Hoare.{Shown, Like, wordOf, shown-ends}
+use Rattle.demands.proofs.Hoare.{Shown, wordOf, shown-ends}
 use Rattle.demands.proofs.Kept.{Kept}
 use Rattle.demands.proofs.Typed.{OfType as IsOf, store-typed}
 use Rattle.demands.specs.Stores.{TypedStore}
-use Rattle.expressions.specs.Ready.{Ready, Runs}
 use Rattle.expressions.proofs.Ways.{all, forms}
 use Rattle.actions.specs.declared.{Run.Run, Ran.Ran, Word.Word, Word.the-variants.Read, Word.the-variants.Ended, Word.the-variants.OutOfRange}
 use Rattle.actions.specs.Doing.{Doing, trying}

@@ -1,5 +1,5 @@
 -- The ways of any's words. Assumes nothing.
-use mathlib.Core.{Path._≡_, Path.refl, Path.sym, Path.ap, Path._∙_, Bool.Bool, Bool.true, Bool.false, List.List, List.[], List._∷_, List.map}
+use mathlib.Core.{Path._≡_, Path.refl, Path.sym, Path.ap, Path._∙_, Bool.Bool, Bool.true, Bool.false, List.List, List._∷_}
 use Prim.Native.Nat.{ℕ, _+_, _/_, _%_, _<_}
 use native.Mathlib.Omega.{arith}
 use lib.{Dec.ltb, IntN.ℤ, ListN.length, ListN.set}
@@ -8,10 +8,9 @@ use Rattle.model.specs.declared.{Image.Image, Fields.Fields, Refusal.the-varian
 use Rattle.model.specs.Answers.{variable, row}
 use Rattle.model.specs.Bytes.{wordAt}
 use Rattle.model.specs.Values.{half16, ofSize}
-use Rattle.model.specs.Image.{Tables, none, trailerOf, tablesOf, fieldsOf, sizeOf}
+use Rattle.model.specs.Image.{none, trailerOf, tablesOf, fieldsOf, sizeOf}
 use Rattle.model.specs.Rows.{ofType, another, nextOf}
-use Rattle.model.specs.Trees.{OfType}
-use Rattle.model.specs.Decode.{listAt, ofTypesAt}
+use Rattle.model.specs.Decode.{ofTypesAt}
 use Rattle.model.specs.Run.{store, St, Res, gives, stored}
 use Rattle.model.proofs.Rows.{Row, row-is, is-kind}
 use Rattle.model.proofs.Codes.{next-is}
@@ -23,7 +22,7 @@ use Rattle.expressions.specs.Ready.{Runs}
 use Rattle.expressions.proofs.Ways.{located, all, forms, value-small}
 use Rattle.actions.specs.declared.{Run.Run, Word.Word, Word.the-variants.Read, Word.the-variants.Ended, Word.the-variants.OutOfRange}
 use Rattle.actions.specs.Items.{Items}
-use Rattle.actions.specs.State.{runAt, stateOf, resultOf}
+use Rattle.actions.specs.State.{runAt, stateOf}
 use Rattle.actions.specs.Words.{wordOf, drawing}
 use Rattle.actions.proofs.Listed.{next-items}
 use Rattle.actions.proofs.Reading.{readAs, readingOf-by}

@@ -1,19 +1,15 @@
 -- The rows of a list, one after another. Assumes nothing.
-use mathlib.Core.{Path._≡_, Path.refl, Path.sym, Path.ap, Path._∙_, Path.subst, Logic._⊎_, Logic.inl, Logic.inr, Logic.⊎-elim, Bool.true, List.List, List.[], List._∷_, List.map}
-use Prim.Native.Nat.{ℕ, _+_, _%_, _≤_, _<_}
+use mathlib.Core.{Path._≡_, Path._∙_, Logic._⊎_, Logic.inl, Logic.inr, Logic.⊎-elim, Bool.true, List.List}
+use Prim.Native.Nat.{ℕ, _+_, _%_, _<_}
 use native.Mathlib.Omega.{arith}
-use lib.{IntN.ℤ, ListN.length}
-use Rattle.model.specs.declared.{Fields.Fields}
-use Rattle.model.specs.Image.{Tables, none, trailerOf, tablesOf, rowCount, fieldsOf}
-use Rattle.model.specs.Rows.{Kind, expression, meansAt, isKind, nextOf}
-use Rattle.model.specs.Decode.{listAt}
-use Rattle.model.proofs.Rows.{Named, Formed, next-named, kind-of}
+use lib.{IntN.ℤ}
+use Rattle.model.specs.Image.{none, tablesOf}
+use Rattle.model.specs.Rows.{Kind, nextOf}
+use Rattle.model.proofs.Rows.{next-named, kind-of}
 use Rattle.model.proofs.Codes.{isKnown, known-in}
-use Rattle.model.proofs.Decode.{listAt-none, listAt-step}
-use Rattle.image.specs.Located.{Located}
 use Rattle.image.proofs.Laid.{laid, rows-count}
-use Rattle.expressions.specs.Ready.{Ready, RowFrom, Runs}
-use Rattle.expressions.proofs.Ways.{located, forms, row-from}
+use Rattle.expressions.specs.Ready.{Runs}
+use Rattle.expressions.proofs.Ways.{located, forms}
 use Rattle.actions.specs.Items.{Items}
 
 -- a row of the list, where it isn't at its end

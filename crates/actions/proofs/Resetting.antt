@@ -1,14 +1,14 @@
 -- The ways of a reset. Assumes nothing.
-use mathlib.Core.{Path._≡_, Path.refl, Path.sym, Path.ap, Path._∙_, Bool.true, List.List, List.[], List._∷_, List.map}
+use mathlib.Core.{Path._≡_, Path.refl, Path.sym, Path.ap, List.List, List._∷_}
 use Prim.Native.Nat.{ℕ, _+_, _%_, _<_}
 use native.Mathlib.Omega.{arith}
 use lib.{IntN.ℤ, IntN.pos, ListN.length, ListN.set}
 use borrow.Author.Tests.{ltb-true}
 use Rattle.model.specs.declared.{Fields.Fields}
 use Rattle.model.specs.Answers.{variable}
-use Rattle.model.specs.Image.{Tables, none, tablesOf, fieldsOf}
+use Rattle.model.specs.Image.{none, tablesOf, fieldsOf}
 use Rattle.model.specs.Rows.{item, another, nextOf}
-use Rattle.model.specs.Decode.{listAt, variablesAt}
+use Rattle.model.specs.Decode.{variablesAt}
 use Rattle.model.specs.Run.{store, resetting}
 use Rattle.model.proofs.Rows.{Row, row-is, is-kind}
 use Rattle.model.proofs.Codes.{next-is}

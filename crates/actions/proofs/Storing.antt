@@ -1,7 +1,7 @@
 -- An assignment's items are stored in one order in the definition and in another in the code: their variables are apart, so
 -- that it can't be seen. Assumes nothing.
 use mathlib.Core.{Path._≡_, Path.refl, Path.sym, Path.ap, Path._∙_, Bool.Bool, Bool.true, Bool.false, List.List, List.[], List._∷_, List.map}
-use Prim.Native.Nat.{ℕ, max, _≤_}
+use Prim.Native.Nat.{ℕ, max}
 use native.Mathlib.Omega.{arith}
 use lib.{IntN.ℤ, Seq.set-comm}
 use Rattle.model.specs.declared.{Variable.Variable, Value.Value, Value.the-variants.Is, Value.the-variants.Unknown, Refusal.the-variants.Undefined, Outcome.the-variants.Ends, Outcome.the-variants.Stops}

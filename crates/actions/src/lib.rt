@@ -49,21 +49,12 @@ pub enum Word {
     OutOfRange,
 }
 
-// No row.
-const NONE: u16 = 65535;
-
-// Half the number of int's values.
-const HALF: u16 = 32768;
-
-// The mark of an undefined variable.
-const UNDEFINED: i32 = 65536;
-
 // Is every item's value known? Only then are they stored, after all are evaluated: on the way out.
 fn assign_all(image: &[u8], rows: u16, r: u16, store: &mut [i32]) -> bool
     requires { ⌜ Items gets (now image) rows r (now store) ⌝ }
     ensures { λ d. ⌜ record { done = d; store = now (store .exit) } ≡ assigns (tablesOf (now (image .entry))) (getsAt (tablesOf (now (image .entry))) r) (now (store .entry)) ⌝ }
 {
-    if r == NONE {
+    if r == Image::NONE {
         return true;
     }
     let w = row(image, rows, r);
@@ -84,11 +75,11 @@ pub fn assign(image: &[u8], rows: u16, r: u16, store: &mut [i32]) -> bool
     requires { ⌜ Items gets (now image) rows r (now store) ⌝ }
     ensures { λ d. ⌜ record { done = d; store = now (store .exit) } ≡ assigns (tablesOf (now (image .entry))) (getsAt (tablesOf (now (image .entry))) r) (now (store .entry)) ⌝ }
 {
-    if r == NONE {
+    if r == Image::NONE {
         return true;
     }
     let w = row(image, rows, r);
-    if w.c != NONE {
+    if w.c != Image::NONE {
         return assign_all(image, rows, r, store);
     }
     match eval(image, rows, w.b, store) {
@@ -106,9 +97,9 @@ pub fn reset(image: &[u8], rows: u16, first: u16, store: &mut [i32])
     ensures { λ _. ⌜ now (store .exit) ≡ resetting (tablesOf (now (image .entry))) (variablesAt (tablesOf (now (image .entry))) first) (now (store .entry)) ⌝ }
 {
     let mut r = first;
-    while r != NONE {
+    while r != Image::NONE {
         let w = row(image, rows, r);
-        store[w.a as usize] = UNDEFINED;
+        store[w.a as usize] = Image::UNDEFINED;
         r = w.b;
     }
 }
@@ -121,7 +112,7 @@ pub fn read_word(script: &[u8], i: usize, n: u16) -> Word
         return Word::Ended;
     }
     let z = word(script, i);
-    if of_size(HALF, n, z) {
+    if of_size(Image::HALF, n, z) {
         return Word::Read(z);
     }
     Word::OutOfRange
@@ -155,7 +146,7 @@ pub fn draw(
 {
     let mut words = run.words;
     let mut r = first;
-    while r != NONE {
+    while r != Image::NONE {
         let w = row(image, i.rows, r);
         match read_word(script, words, size(image, i, w.b)) {
             Word::Ended => {
@@ -215,7 +206,7 @@ fn try_condition(image: &[u8], rows: u16, r: u16, c: u16, store: &[i32], run: Ru
     requires { ⌜ Items expression (now image) rows c (now store) ⌝ }
     ensures { λ q. ⌜ Silent q run (now (store .entry)) (now (store .entry)) (trying (tablesOf (now (image .entry))) c r) ⌝ }
 {
-    if c == NONE {
+    if c == Image::NONE {
         return Ran {
             out: Outcome::Ends,
             run: run,

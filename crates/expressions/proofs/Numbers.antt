@@ -1,7 +1,7 @@
 -- An operator's row: its operands, read as numbers of which the mark means unknown. Assumes nothing.
 use mathlib.Core.Logic.{inl, inr, _⊎_}
 use mathlib.Core.{Path._≡_, Path.refl, Path.sym, Path.ap, Path._∙_, Bool.Bool, Bool.true, Bool.false, List.List, List.[], List._∷_}
-use Prim.Native.Nat.{ℕ, _-_, _^_, _≤_, _<_}
+use Prim.Native.Nat.{ℕ, _-_, _^_, _<_}
 use native.Mathlib.Omega.{arith}
 use lib.{Dec.eqb, IntN.ℤ, IntN.pos, ListN.length, ListN.getD, ListN.take, Seq.take-length, Signed.mag}
 use borrow.Author.Tests.{eqb-true, eqb-false}

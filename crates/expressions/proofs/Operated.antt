@@ -5,7 +5,7 @@ use lib.{Dec.eqb, IntN.ℤ, IntN.pos, ListN.length, ListN.getD, Signed.mag}
 use borrow.Author.Tests.{eqb-true, eqb-false, ne-eqb, eq-eqb}
 use native.Mathlib.Omega.{arith}
 use mir.{Syntax.w32, Val.toZ, Val.ofZ, ValLaws.toZ-ofZ}
-use Rattle.model.specs.declared.{Value.Value, Value.the-variants.Is, Value.the-variants.Unknown}
+use Rattle.model.specs.declared.{Value.the-variants.Is, Value.the-variants.Unknown}
 use Rattle.model.specs.Bytes.{signed}
 use Rattle.model.specs.Values.{half16, mark, isZero, same}
 use Rattle.model.proofs.Values.{same-refl, same-ne}

@@ -1,20 +1,19 @@
 -- The ways of an expression's evaluation, by its row's code. Assumes nothing.
 use mathlib.Core.Logic.{inl, inr}
-use mathlib.Core.{Path._≡_, Path.refl, Path.sym, Path.ap, Path._∙_, Path.subst, Bool.Bool, Bool.true, Bool.false, Bool.not, Bool.cond, Bool._&&_, List.List, List.[], List._∷_}
-use Prim.Native.Nat.{ℕ, _+_, _^_, _≤_, _<_}
+use mathlib.Core.{Path._≡_, Path.refl, Path.sym, Path.ap, Path._∙_, Path.subst, Bool.Bool, Bool.true, Bool.false, Bool.cond, Bool._&&_, List.List, List.[], List._∷_}
+use Prim.Native.Nat.{ℕ, _<_}
 use native.Mathlib.Omega.{arith}
-use lib.{Dec.eqb, Dec.ltb, IntN.ℤ, IntN.pos, ListN.length, ListN.getD, Signed.mag, Signed.nonNeg}
-use borrow.Author.Tests.{ltb-true, eqb-true, eqb-false}
+use lib.{Dec.eqb, Dec.ltb, IntN.ℤ, ListN.length, ListN.getD, Signed.mag, Signed.nonNeg}
+use borrow.Author.Tests.{ltb-true}
 use types.Run.{OneOf}
 use mir.{Syntax.w32, Val.ofZ}
 use Rattle.values.proofs.{Held.held, Held.held-is, Computed.zero-divisor, Computed.other-divisor}
 use Rattle.model.specs.declared.{Fields.Fields, Value.Value, Value.the-variants.Is, Value.the-variants.Unknown, Tested.the-variants.Holds, Tested.the-variants.Fails, Tested.the-variants.Unsure}
-use Rattle.model.specs.Answers.{variable}
 use Rattle.model.specs.Values.{half16, mark, isZero, ofSize}
-use Rattle.model.specs.Image.{Tables, trailerOf, tablesOf, rowCount, fieldsOf, sizeOf}
-use Rattle.model.specs.Rows.{Kind, expression, Unary, Binary, ExpressionRow, isVariable, isConstant, isUnary, isBinary, Not, Negate, logic, arithmetic, comparison, And, Or, Plus, Minus, Times, Quotient, Remainder, Equal, Less, AtMost, Means, anExpression, codes, lookup, shapeOf, meansAt, isKind}
-use Rattle.model.specs.Trees.{Exp, var, const, unary, binary}
-use Rattle.model.specs.Decode.{constantOf, growExpression, expressionAt}
+use Rattle.model.specs.Image.{Tables, trailerOf, tablesOf, fieldsOf, sizeOf}
+use Rattle.model.specs.Rows.{Kind, expression, Unary, Binary, ExpressionRow, isVariable, isConstant, isUnary, isBinary, Not, Negate, anExpression, codes, lookup, shapeOf, meansAt}
+use Rattle.model.specs.Trees.{Exp, unary, binary}
+use Rattle.model.specs.Decode.{growExpression, expressionAt}
 use Rattle.model.specs.Typing.{typeOfExp}
 use Rattle.model.specs.Run.{slot, defined, applyUnary, applyBinary, eval, test}
 use Rattle.model.proofs.Rows.{both-true, Named, Row, Formed, row-is, is-kind}
@@ -28,7 +27,7 @@ use Rattle.demands.proofs.GoodRows.{good-exp}
 use Rattle.demands.proofs.Typed.{eval-typed}
 use Rattle.expressions.specs.Operators.{unaryOf, binaryOf, valueOf, constantBy}
 use Rattle.expressions.specs.Ready.{Ready, RowFrom, Runs}
-use Rattle.expressions.proofs.Operated.{unary-of, binary-of}
+use Rattle.expressions.proofs.Operated.{binary-of}
 
 -- an image free of 1 to 9
 module _ {s : List ℕ} {m : List ℤ} (h : Ready s m) where

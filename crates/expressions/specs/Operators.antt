@@ -1,7 +1,7 @@
 -- Operators by their codes, and a variable's value (01, "The image", "Values"). Assumes nothing.
-use mathlib.Core.{Bool.true, Bool.false, Bool.not, Bool.cond, List.List}
+use mathlib.Core.{Bool.true, Bool.false, Bool.not, Bool.cond}
 use Prim.Native.Nat.{ℕ}
-use lib.{Dec.eqb, IntN.ℤ, IntN.pos, ListN.getD}
+use lib.{Dec.eqb, IntN.ℤ, IntN.pos}
 use Rattle.model.specs.declared.{Value.Value, Value.the-variants.Is, Value.the-variants.Unknown}
 use Rattle.model.specs.Bytes.{signed}
 use Rattle.model.specs.Values.{mark, half16, same}

@@ -11,6 +11,7 @@ ghost use Rattle.model.specs.Run.{applyUnary, applyBinary, eval, test};
 ghost use Rattle.expressions.specs.Operators.{unaryOf, binaryOf, valueOf, constantBy};
 ghost use Rattle.expressions.specs.Ready.{RowFrom, Runs, Applies};
 use model::Fields;
+use model::Image;
 use model::Tested;
 use model::Value;
 use values::minus;
@@ -22,14 +23,6 @@ use values::remainder;
 use values::signed;
 use values::times;
 use words::half;
-
-// Half the number of int's values.
-const HALF: u16 = 32768;
-
-const INT: u16 = 1;
-
-// The mark of an undefined variable.
-const UNDEFINED: i32 = 65536;
 
 // The fields of a row, by where the rows start.
 pub fn row(image: &[u8], rows: u16, r: u16) -> Fields
@@ -49,7 +42,7 @@ pub fn row(image: &[u8], rows: u16, r: u16) -> Fields
 pub fn known(z: i32) -> Value
     ensures { λ r. ⌜ r ≡ valueOf z ⌝ }
 {
-    if z == UNDEFINED {
+    if z == Image::UNDEFINED {
         return Value::Unknown;
     }
     Value::Is(z)
@@ -67,8 +60,8 @@ pub fn value(store: &[i32], v: u16) -> Value
 pub fn constant(a: u16, b: u16) -> i32
     ensures { λ z. ⌜ z ≡ constantBy a b ⌝ }
 {
-    if a == INT {
-        return signed(HALF, b);
+    if a == Image::INT {
+        return signed(Image::HALF, b);
     }
     b as i32
 }
@@ -80,7 +73,7 @@ fn unary(code: u16, a: i32) -> i32
     if code == 16 {
         return of_bool(a == 0);
     }
-    negate(HALF, a)
+    negate(Image::HALF, a)
 }
 
 fn binary(code: u16, a: i32, b: i32) -> i32
@@ -90,11 +83,11 @@ fn binary(code: u16, a: i32, b: i32) -> i32
     match code {
         17 => of_bool((a != 0) & (b != 0)),
         18 => of_bool((a != 0) | (b != 0)),
-        20 => plus(HALF, a, b),
-        21 => minus(HALF, a, b),
-        22 => times(HALF, a, b),
-        23 => quotient(HALF, a, b),
-        24 => remainder(HALF, a, b),
+        20 => plus(Image::HALF, a, b),
+        21 => minus(Image::HALF, a, b),
+        22 => times(Image::HALF, a, b),
+        23 => quotient(Image::HALF, a, b),
+        24 => remainder(Image::HALF, a, b),
         25 => of_bool(a == b),
         26 => of_bool(a < b),
         _ => of_bool(a <= b),
@@ -108,16 +101,16 @@ fn applied(image: &[u8], rows: u16, r: u16, store: &[i32]) -> i32
 {
     let w = row(image, rows, r);
     let a = operand(image, rows, w.a, store);
-    if a == UNDEFINED {
-        return UNDEFINED;
+    if a == Image::UNDEFINED {
+        return Image::UNDEFINED;
     }
     let code = w.code;
     match code {
         16 | 19 => unary(code, a),
         _ => {
             let b = operand(image, rows, w.b, store);
-            if b == UNDEFINED {
-                return UNDEFINED;
+            if b == Image::UNDEFINED {
+                return Image::UNDEFINED;
             }
             binary(code, a, b)
         }

@@ -35,9 +35,6 @@ use notation::whole::put_said;
 use ntif::check;
 use text::emit;
 
-// No row.
-const NONE: u16 = 0xFFFF;
-
 // What can have been said on the ways that lead to a row: on these gates; or nothing.
 pub struct Said {
     pub gates: u64,
@@ -61,8 +58,8 @@ fn plain_style() -> Style
     ensures { λ r. ⌜ r ≡ pointless true ⌝ }
 {
     Style {
-        place: NONE,
-        state: NONE,
+        place: Image::NONE,
+        state: Image::NONE,
         graph: true,
     }
 }
@@ -126,13 +123,13 @@ fn parts_of(w: Fields) -> Parts
     let code = w.code;
     match code {
         54 => parts_at(w.a, w.b, 1),
-        55 => parts_at(w.a, NONE, 2),
-        56 => parts_at(w.b, NONE, 2),
+        55 => parts_at(w.a, Image::NONE, 2),
+        56 => parts_at(w.b, Image::NONE, 2),
         57 => parts_at(w.a, w.b, 2),
         58 => parts_at(w.b, w.c, 2),
-        59 => parts_at(w.b, NONE, 3),
-        60 => parts_at(w.b, NONE, 3),
-        _ => parts_at(NONE, NONE, 0),
+        59 => parts_at(w.b, Image::NONE, 3),
+        60 => parts_at(w.b, Image::NONE, 3),
+        _ => parts_at(Image::NONE, Image::NONE, 0),
     }
 }
 
@@ -271,7 +268,7 @@ fn walk_row(
     if left == 0 {
         return stopped(at);
     }
-    if r == NONE {
+    if r == Image::NONE {
         return stopped(at);
     }
     let w = row_fields(image, i, r);

@@ -3,7 +3,7 @@ use mathlib.Core.{Path._≡_, Path.refl, Path.sym, Path.ap, Path._∙_, Path.sub
 use Prim.Native.Nat.{ℕ, _<_}
 use native.Mathlib.Omega.{arith}
 use lib.IntN.{ℤ}
-use Rattle.model.specs.declared.{Image.Image, Value.Value, Value.the-variants.Is, Value.the-variants.Unknown, Refusal.the-variants.Blocked, Refusal.the-variants.BlockedSpoken, Refusal.the-variants.Undefined, Outcome.the-variants.Stops}
+use Rattle.model.specs.declared.{Value.Value, Value.the-variants.Is, Value.the-variants.Unknown, Refusal.the-variants.Blocked, Refusal.the-variants.BlockedSpoken, Refusal.the-variants.Undefined, Outcome.the-variants.Stops}
 use Rattle.model.specs.Answers.{row}
 use Rattle.model.specs.Image.{tablesOf}
 use Rattle.model.specs.Rows.{action}

@@ -8,7 +8,7 @@ use Rattle.model.specs.Answers.{row, number}
 use Rattle.model.specs.Image.{Tables}
 use Rattle.model.specs.Trees.{Exp, Offer, emit, receive, Gets, OfType as OfTypeItem, someBranch, Action, at, Act, null, assign, choose, reset, communicate, to, then, select, case, while, for, Branches, noBranch, branch, Arms, noArm, arm}
 use Rattle.model.specs.Typing.{typeOfPat}
-use Rattle.model.specs.Run.{store, eval, test, match, Label, spoken, St, Res, gives, stored, blockedAt, blocked, andThen, storing, assigning, choosing, offering, communicating, toLow, atMostHigh, onward, exec, execAct, execBranch, execArms}
+use Rattle.model.specs.Run.{store, eval, test, match, spoken, St, Res, gives, stored, blockedAt, blocked, andThen, storing, assigning, choosing, offering, communicating, toLow, atMostHigh, onward, exec, execAct, execBranch, execArms}
 use Rattle.model.proofs.Run.{if-rule, match-rule}
 use Rattle.demands.proofs.Hoare.{Post, Shown, same-post, after, charged, word, wordOf, value, test-of, loops, shown-stop}
 

@@ -4,7 +4,7 @@ use Prim.Native.Nat.{ℕ, zero, suc, _-_, _≤_, _<_}
 use native.Mathlib.Omega.{arith}
 use lib.{IntN.ℤ, IntN.pos, ListN.length, ListN.set, Signed.mag}
 use borrow.Author.Tests.{ltb-true}
-use Rattle.model.specs.declared.{Fields.Fields, Image.Image, State.State, Variable.Variable, Value.the-variants.Is, Tested.Tested, Tested.the-variants.Holds, Tested.the-variants.Fails, Tested.the-variants.Unsure, Refusal.Refusal, Refusal.the-variants.Undefined, Refusal.the-variants.BudgetSpent, Outcome.Outcome, Outcome.the-variants.Ends, Outcome.the-variants.Jumps, Outcome.the-variants.Stops}
+use Rattle.model.specs.declared.{Fields.Fields, State.State, Variable.Variable, Value.the-variants.Is, Tested.Tested, Tested.the-variants.Holds, Tested.the-variants.Fails, Tested.the-variants.Unsure, Refusal.Refusal, Refusal.the-variants.Undefined, Refusal.the-variants.BudgetSpent, Outcome.Outcome, Outcome.the-variants.Ends, Outcome.the-variants.Jumps, Outcome.the-variants.Stops}
 use Rattle.model.specs.Answers.{row, variable}
 use Rattle.model.specs.Bytes.{signed}
 use Rattle.model.specs.Values.{half16}

@@ -5,7 +5,7 @@ use Prim.Native.Nat.{ℕ, suc, _+_, _%_, _≤_, _<_}
 use native.Mathlib.Omega.{arith}
 use lib.{IntN.ℤ, ListN.length}
 use borrow.Author.Tests.{eq-eqb}
-use Rattle.model.specs.declared.{Fields.Fields, Image.Image}
+use Rattle.model.specs.declared.{Fields.Fields}
 use Rattle.model.specs.Image.{Tables, none, trailerOf, tablesOf, fieldsOf}
 use Rattle.model.specs.Rows.{Kind, range, action, branch, ActionRow, isNull, isAssign, isChoose, isReset, isCommunicate, isTo, isThen, isSelect, isCase, isWhile, isFor, anAction, codes, lookup, shapeOf, meansAt, listUpTo, nextOf}
 use Rattle.model.specs.Trees.{Arms, noArm, arm as anArm}

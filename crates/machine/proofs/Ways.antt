@@ -8,7 +8,7 @@ use borrow.Author.Tests.{ltb-true}
 use types.Run.{OneOf}
 use denote.Enum.Declared.{tagOf}
 use Rattle.model.proofs.Outcome.{the-type}
-use Rattle.model.specs.declared.{Fields.Fields, Gate.Gate, Image.Image, Refusal.the-variants.Blocked, Refusal.the-variants.BlockedSpoken, Refusal.the-variants.BudgetSpent, Refusal.the-variants.ScriptEnded, Refusal.the-variants.WordOutOfRange, Outcome.Outcome, Outcome.the-variants.Ends, Outcome.the-variants.Stops}
+use Rattle.model.specs.declared.{Fields.Fields, Gate.Gate, Refusal.the-variants.Blocked, Refusal.the-variants.BlockedSpoken, Refusal.the-variants.BudgetSpent, Refusal.the-variants.ScriptEnded, Refusal.the-variants.WordOutOfRange, Outcome.Outcome, Outcome.the-variants.Ends, Outcome.the-variants.Stops}
 use Rattle.model.specs.Answers.{row, gate}
 use Rattle.model.specs.Bytes.{wordAt}
 use Rattle.model.specs.Image.{Tables, none, tablesOf, fieldsOf}

@@ -5,7 +5,7 @@ use mathlib.Core.{Path._≡_, Path.refl, Path.sym, Path.subst, Bool.true, List.L
 use Prim.Native.Nat.{ℕ, zero, suc, _+_, _-_, _*_, _≤_, _<_}
 use native.Mathlib.Omega.{arith}
 use lib.{IntN.ℤ, IntN.pos, IntN.negsuc, ListN.length, ListN.length-map}
-use Rattle.model.specs.declared.{Gate.Gate, Image.Image}
+use Rattle.model.specs.declared.{Gate.Gate}
 use Rattle.model.specs.Bytes.{wordAt}
 use Rattle.model.specs.Image.{Tables, none, tablesOf, fieldsOf}
 use Rattle.model.specs.Rows.{Kind, offer, action, branch, arm, another, ActionRow, isNull, isAssign, isChoose, isReset, isCommunicate, isTo, isThen, isSelect, isCase, isWhile, isFor, anAction, meansAt, isKind, listUpTo}

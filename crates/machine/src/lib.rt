@@ -22,6 +22,7 @@ use expressions::row;
 use expressions::test;
 use expressions::value;
 use image::trailer;
+use model::Image;
 use model::Refusal;
 use model::Row;
 use model::Tested;
@@ -43,12 +44,6 @@ use values::plus;
 use values::signed;
 use values::size;
 use words::word;
-
-// No row.
-const NONE: u16 = 65535;
-
-// Half the number of int's values.
-const HALF: u16 = 32768;
 
 // Blocked, before or after communicating.
 fn blocked(r: u16, run: &[usize]) -> u32
@@ -83,7 +78,7 @@ fn onward(r: u16, v: u16, p: u32, store: &mut [i32]) -> u32
     }
     match value(store, v) {
         Value::Is(z) => {
-            store[v as usize] = plus(HALF, z, 1);
+            store[v as usize] = plus(Image::HALF, z, 1);
             ENDS
         }
         Value::Unknown => stopped(Refusal::Undefined(Row(r))),
@@ -191,7 +186,7 @@ fn run_select(
     requires { ⌜ RunningList branch (now image) rows a (now store) (now values) × (5 ≤ length (now run)) ⌝ }
     ensures { λ n. ⌜ resultOf (ranOf n (now (run .exit))) (now (store .exit)) (now (values .exit)) ≡ execAct (tablesOf (now (image .entry))) (select (branchesOf (tablesOf (now (image .entry))) (actionAt (tablesOf (now (image .entry)))) (listAt (tablesOf (now (image .entry))) a))) (now (script .entry)) r (stateOf (runOf (now (run .entry))) (now (store .entry)) (now (values .entry))) ⌝ }
 {
-    if a == NONE {
+    if a == Image::NONE {
         return blocked(r, run);
     }
     let k = words(run);
@@ -224,7 +219,7 @@ fn run_branches(
     let mut here = first;
     let mut ahead = k;
     loop {
-        if here == NONE {
+        if here == Image::NONE {
             return stopped(Refusal::WordOutOfRange(Row(r)));
         }
         let w = row(image, rows, here);
@@ -325,8 +320,8 @@ fn run_for(
 {
     let w = row(image, rows, g);
     let v = w.a;
-    let high = signed(HALF, w.c);
-    store[v as usize] = signed(HALF, w.b);
+    let high = signed(Image::HALF, w.c);
+    store[v as usize] = signed(Image::HALF, w.b);
     loop {
         match at_most(store, v, high) {
             Tested::Fails => return ENDS,

@@ -33,9 +33,6 @@ mod marks;
 pub mod tables;
 pub mod whole;
 
-// No row.
-const NONE: u16 = 0xFFFF;
-
 // A row to be written: after which words, how many lines of the notation on, how deep.
 pub struct Aim {
     pub row: u16,
@@ -90,7 +87,7 @@ fn put_row(
     if left == 0 {
         return at;
     }
-    if a.row == NONE {
+    if a.row == Image::NONE {
         return at;
     }
     let w = row_fields(image, i, a.row);
@@ -143,8 +140,8 @@ fn put_explained(image: &[u8], v: Verdict, sets: &[u64], text: &mut [u8]) -> usi
         Verdict::Accepted => {
             let i = trailer(image);
             let st = Style {
-                place: NONE,
-                state: NONE,
+                place: Image::NONE,
+                state: Image::NONE,
                 graph: false,
             };
             let a = put_listing(image, i, st, text, 0);

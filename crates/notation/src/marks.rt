@@ -6,7 +6,6 @@ ghost use Rattle.text.specs.Emit.{page, Emitted};
 ghost use Rattle.notation.specs.Table.{notation};
 ghost use Rattle.notation.specs.Texts.{lineFrom, endsBy, blanks, padding, typeName, lineEnd, margin, pointer, lineStart, plainText, deeper, aimOf, leadText, constantLine, gateLine, rowLine};
 use crate::Aim;
-use crate::NONE;
 use crate::Style;
 use crate::lines::COMMUNICATE;
 use crate::lines::FALSE;
@@ -15,6 +14,7 @@ use crate::lines::TAU;
 use crate::lines::TRUE;
 use crate::lines::VALUE;
 use model::Fields;
+use model::Image;
 use text::emit;
 use text::emit_byte;
 use text::emit_literal;
@@ -315,7 +315,7 @@ pub(crate) fn aim(a: Aim, w: Fields, b: u8) -> Aim
         b'Q' => aim_at(w.c, 1, a.shift, a.depth),
         b'R' => aim_at(w.b, 1, a.shift, a.depth),
         b'W' => aim_at(w.b, 2, 0, a.depth),
-        _ => aim_at(NONE, 0, 0, 0),
+        _ => aim_at(Image::NONE, 0, 0, 0),
     }
 }
 

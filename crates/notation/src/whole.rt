@@ -8,7 +8,6 @@ ghost use Rattle.text.specs.Emit.{page, Emitted};
 ghost use Rattle.notation.specs.Texts.{each};
 ghost use Rattle.notation.specs.Whole.{fieldsWith, wordsText, lengthText, trailerText, tablesText, rootsText, rawText, listingText, memberText, setText, acceptedText, refusalText, rowPlace, statePlace, pointing, shownText};
 ghost use Rattle.notation.specs.Inside.{Shown};
-use crate::NONE;
 use crate::Style;
 use crate::lines::ACCEPTED;
 use crate::lines::CONDITION;
@@ -208,15 +207,15 @@ fn row_place(n: u16, p: u16) -> u16
     ensures { λ r. ⌜ r ≡ rowPlace n p ⌝ }
 {
     if n < 5 {
-        return NONE;
+        return Image::NONE;
     }
     if n == 6 {
-        return NONE;
+        return Image::NONE;
     }
     if n < 10 {
         return p;
     }
-    NONE
+    Image::NONE
 }
 
 fn state_place(n: u16, p: u16) -> u16
@@ -226,7 +225,7 @@ fn state_place(n: u16, p: u16) -> u16
         return p;
     }
     if n < 11 {
-        return NONE;
+        return Image::NONE;
     }
     p
 }

@@ -30,9 +30,6 @@ use typing::type_of_pattern;
 // The code of an emission.
 const EMIT: u16 = 40;
 
-// No row.
-const NONE: u16 = 65535;
-
 // What an offer gives, and the words read then.
 pub enum Offered {
     Gave(i32, usize),
@@ -111,7 +108,7 @@ fn accept_all(
     let mut words = run.words;
     let mut count: u16 = 0;
     let mut r = w.b;
-    while r != NONE {
+    while r != Image::NONE {
         let o = row(image, i.rows, r);
         match accept(image, i, place, o, store, script, words) {
             Offered::Refused(y, n) => {

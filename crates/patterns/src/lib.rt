@@ -12,6 +12,7 @@ use expressions::constant;
 use expressions::row;
 use expressions::test;
 use model::Fields;
+use model::Image;
 use model::Tested;
 
 // The codes of a variable's pattern, a constant's and one with a condition.
@@ -20,9 +21,6 @@ const VARIABLE: u16 = 33;
 const CONSTANT: u16 = 34;
 
 const WHERE: u16 = 35;
-
-// No row.
-const NONE: u16 = 65535;
 
 // What a match gives.
 pub enum Match {
@@ -144,7 +142,7 @@ pub fn find_arm(image: &[u8], rows: u16, first: u16, z: i32, store: &mut [i32]) 
 {
     let mut arm = first;
     let found = 'arms: loop {
-        if arm == NONE {
+        if arm == Image::NONE {
             break Found::NoArm;
         }
         let w = row(image, rows, arm);

@@ -1,5 +1,6 @@
 // The lines that are written.
 use libc::STDOUT_FILENO;
+use model::Image;
 use model::Move;
 use model::Refusal;
 use model::State;
@@ -27,7 +28,7 @@ fn signed(n: i32) {
 // A word of the store; an undefined one is u.
 fn slot(n: i32) {
     text(b" ");
-    if n == 65536 {
+    if n == Image::UNDEFINED {
         text(b"u");
         return;
     }

@@ -1,9 +1,9 @@
 -- The run's state in its slice. Assumes nothing.
-use mathlib.Core.{Path._≡_, Path.refl, Path.ap, Path._∙_, Bool.Bool, Bool.true, Bool.false, List.List, List.[], List._∷_}
-use Prim.Native.Nat.{ℕ, _+_, _-_, _%_, _≤_, _<_}
+use mathlib.Core.{Path._≡_, Path.refl, Bool.Bool, Bool.true, Bool.false, List.List, List.[], List._∷_}
+use Prim.Native.Nat.{ℕ, _-_, _≤_, _<_}
 use mir.Val.{boolByte}
 use native.Mathlib.{Nat.mod-eq-of-lt, Omega.arith}
-use lib.{Dec.eqb, ListN.length, ListN.length-set, ListN.set, ListN.getD}
+use lib.{Dec.eqb, ListN.length, ListN.length-set, ListN.set}
 use Rattle.actions.specs.declared.{Run.Run}
 use Rattle.told.specs.Told.{runOf}
 

@@ -1,5 +1,5 @@
 -- What the run of an action hands on: its state in a slice, and how it ended as a number. Assumes nothing.
-use mathlib.Core.{Path._≡_, Bool.true, Bool.false, Bool.cond, List.List}
+use mathlib.Core.{Path._≡_, Bool.cond, List.List}
 use Prim.Native.Nat.{ℕ, _-_, _/_, _%_, _≤_}
 use lib.{Dec.eqb, Dec.ltb, ListN.getD}
 use Rattle.model.specs.declared.{Row.Row, Refusal.Refusal, Refusal.the-variants.Blocked, Refusal.the-variants.Undefined, Refusal.the-variants.ScriptEnded, Refusal.the-variants.WordOutOfRange, Refusal.the-variants.BudgetSpent, Refusal.the-variants.BlockedSpoken, Refusal.the-variants.SecondCommunication, Outcome.Outcome, Outcome.the-variants.Ends, Outcome.the-variants.Jumps, Outcome.the-variants.Stops}

@@ -1,8 +1,5 @@
-use borrow.Author.Needs.{needs}
 use Rattle.actions.proofs.blocked_at.Statement.{statement}
 use Rattle.actions.proofs.blocked_at.Tie as tie
-use Rattle.actions.proofs.blocked_at.Reads as reads
-use Rattle.actions.proofs.blocked_at.Lts as lts
 
 returns : tie.Need-returns
 returns c =

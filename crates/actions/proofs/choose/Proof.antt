@@ -2,10 +2,6 @@ use borrow.Author.Needs.{needs}
 use Rattle.actions.proofs.Done.{choose-items, drawn-typed, choose-tried, choose-stopped, other-out}
 use Rattle.actions.proofs.choose.Statement.{statement}
 use Rattle.actions.proofs.choose.Tie as tie
-use Rattle.actions.proofs.choose.Reads as reads
-use Rattle.actions.proofs.choose.Lts as lts
-use Rattle.actions.proofs.draw.Reads as draw-reads
-use Rattle.actions.proofs.try_condition.Reads as try-condition-reads
 
 draw-requires : tie.Need-draw-requires
 draw-requires c κs =

@@ -1,5 +1,5 @@
 use borrow.Author.Needs.{needs}
-use mathlib.Core.{Path._≡_, Path.refl, Path.sym, Path._∙_, List.List}
+use mathlib.Core.{Path._≡_, Path.refl, Path._∙_, List.List}
 use Prim.Native.Nat.{ℕ, _+_, _%_}
 use native.Mathlib.Omega.{arith}
 use lib.{IntN.ℤ, ListN.length, ListN.length-set}
@@ -14,12 +14,6 @@ use Rattle.actions.proofs.Listed.{here-row}
 use Rattle.actions.proofs.Drawing.{word-inside, draw-none, drawn-inside, drawn-type, drawn-local, draw-next, draw-ended, draw-out, draw-read}
 use Rattle.actions.proofs.draw.Statement.{statement}
 use Rattle.actions.proofs.draw.Tie as tie
-use Rattle.actions.proofs.draw.Reads as reads
-use Rattle.actions.proofs.draw.Lts as lts
-use Rattle.actions.proofs.at_word.Reads as at-word-reads
-use Rattle.actions.proofs.read_word.Reads as read-word-reads
-use Rattle.expressions.proofs.row.Reads as row-reads
-use Rattle.image.proofs.size.Reads as size-reads
 
 abbrev Inv-loop : tie.InvT-loop
 Inv-loop image i place first store₀ script run words₀ r₀ store words r =

@@ -4,10 +4,6 @@ use Rattle.values.proofs.Held.{held-is}
 use Rattle.actions.proofs.Reading.{word-ended, word-read, word-out}
 use Rattle.actions.proofs.read_word.Statement.{statement}
 use Rattle.actions.proofs.read_word.Tie as tie
-use Rattle.actions.proofs.read_word.Reads as reads
-use Rattle.actions.proofs.read_word.Lts as lts
-use Rattle.values.proofs.of_size.Reads as of-size-reads
-use Rattle.words.proofs.word.Reads as word-reads
 
 returns : tie.Need-returns
 returns c = word-ended _ _ _ (c .if1 .taken)

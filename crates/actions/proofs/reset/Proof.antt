@@ -1,5 +1,5 @@
 use borrow.Author.Needs.{needs}
-use mathlib.Core.Path.{_≡_, refl, sym, _∙_}
+use mathlib.Core.Path.{_≡_, refl, _∙_}
 use Prim.Native.Nat.{_+_, _%_}
 use native.Mathlib.Omega.{arith}
 use lib.ListN.{length, length-set}
@@ -13,9 +13,6 @@ use Rattle.actions.proofs.Listed.{here-row}
 use Rattle.actions.proofs.Resetting.{reset-none, variable-inside, reset-next, reset-step}
 use Rattle.actions.proofs.reset.Statement.{statement}
 use Rattle.actions.proofs.reset.Tie as tie
-use Rattle.actions.proofs.reset.Reads as reads
-use Rattle.actions.proofs.reset.Lts as lts
-use Rattle.expressions.proofs.row.Reads as row-reads
 
 abbrev Inv-loop : tie.InvT-loop
 Inv-loop image rows first store₀ r₀ store r =

@@ -2,9 +2,6 @@ use borrow.Author.Needs.{needs}
 use Rattle.actions.proofs.Done.{assign-items, assign-ends, assign-fails}
 use Rattle.actions.proofs.run_assign.Statement.{statement}
 use Rattle.actions.proofs.run_assign.Tie as tie
-use Rattle.actions.proofs.run_assign.Reads as reads
-use Rattle.actions.proofs.run_assign.Lts as lts
-use Rattle.actions.proofs.assign.Reads as assign-reads
 
 assign-requires : tie.Need-assign-requires
 assign-requires c κs =

@@ -1,13 +1,8 @@
 use borrow.Author.Needs.{needs}
-use Rattle.model.specs.Image.{tablesOf}
 use Rattle.actions.proofs.Listed.{here-row}
 use Rattle.actions.proofs.Done.{try-none, try-holds, try-fails, try-unsure}
 use Rattle.actions.proofs.try_condition.Statement.{statement}
 use Rattle.actions.proofs.try_condition.Tie as tie
-use Rattle.actions.proofs.try_condition.Reads as reads
-use Rattle.actions.proofs.try_condition.Lts as lts
-use Rattle.actions.proofs.blocked_at.Reads as blocked-at-reads
-use Rattle.expressions.proofs.test.Reads as test-reads
 
 returns : tie.Need-returns
 returns c =

@@ -7,14 +7,6 @@ use Rattle.values.proofs.Held.{held-is}
 use Rattle.expressions.proofs.Operated.{zero-is, same-is, binary-by, held-both, last-code}
 use Rattle.expressions.proofs.binary.Statement.{statement}
 use Rattle.expressions.proofs.binary.Tie as tie
-use Rattle.expressions.proofs.binary.Reads as reads
-use Rattle.expressions.proofs.binary.Lts as lts
-use Rattle.values.proofs.minus.Reads as minus-reads
-use Rattle.values.proofs.of_bool.Reads as of-bool-reads
-use Rattle.values.proofs.plus.Reads as plus-reads
-use Rattle.values.proofs.quotient.Reads as quotient-reads
-use Rattle.values.proofs.remainder.Reads as remainder-reads
-use Rattle.values.proofs.times.Reads as times-reads
 
 of-bool-requires : tie.Need-of-bool-requires
 of-bool-requires c κs = search needs

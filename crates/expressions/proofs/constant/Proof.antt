@@ -3,9 +3,6 @@ use native.Mathlib.Omega.{arith}
 use Rattle.expressions.proofs.Operated.{int-constant, other-constant}
 use Rattle.expressions.proofs.constant.Statement.{statement}
 use Rattle.expressions.proofs.constant.Tie as tie
-use Rattle.expressions.proofs.constant.Reads as reads
-use Rattle.expressions.proofs.constant.Lts as lts
-use Rattle.values.proofs.signed.Reads as signed-reads
 
 signed-requires : tie.Need-signed-requires
 signed-requires c κs = search needs

@@ -3,9 +3,6 @@ use native.Mathlib.Omega.{arith}
 use Rattle.expressions.proofs.Rows.{inside-from, read-from}
 use Rattle.expressions.proofs.row.Statement.{statement}
 use Rattle.expressions.proofs.row.Tie as tie
-use Rattle.expressions.proofs.row.Reads as reads
-use Rattle.expressions.proofs.row.Lts as lts
-use Rattle.words.proofs.half.Reads as half-reads
 
 mul-at : tie.Need-mul-at
 mul-at c = search needs

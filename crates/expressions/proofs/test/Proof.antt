@@ -2,9 +2,6 @@ use borrow.Author.Needs.{needs}
 use Rattle.expressions.proofs.Ways.{test-fails, test-holds, test-unsure}
 use Rattle.expressions.proofs.test.Statement.{statement}
 use Rattle.expressions.proofs.test.Tie as tie
-use Rattle.expressions.proofs.test.Reads as reads
-use Rattle.expressions.proofs.test.Lts as lts
-use Rattle.expressions.proofs.eval.Reads as eval-reads
 
 eval-requires : tie.Need-eval-requires
 eval-requires c κs = search needs

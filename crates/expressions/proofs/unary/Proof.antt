@@ -1,16 +1,12 @@
 use borrow.Author.Needs.{needs}
 use mathlib.Core.Path.{_∙_}
-use Rattle.model.specs.Values.{half16, negate}
+use Rattle.model.specs.Values.{negate}
 use Rattle.model.specs.Run.{applyUnary}
 use Rattle.values.proofs.Held.{held-is}
 use Rattle.expressions.specs.Operators.{unaryOf}
 use Rattle.expressions.proofs.Operated.{zero-is, unary-by, other-code}
 use Rattle.expressions.proofs.unary.Statement.{statement}
 use Rattle.expressions.proofs.unary.Tie as tie
-use Rattle.expressions.proofs.unary.Reads as reads
-use Rattle.expressions.proofs.unary.Lts as lts
-use Rattle.values.proofs.negate.Reads as negate-reads
-use Rattle.values.proofs.of_bool.Reads as of-bool-reads
 
 of-bool-requires : tie.Need-of-bool-requires
 of-bool-requires c κs = search needs

@@ -15,7 +15,7 @@ use Rattle.told.specs.Told.{runOf, ranOf}
 use Rattle.told.proofs.Coded.{ends-at, out-over, out-ends}
 use Rattle.machine.specs.Running.{RunningList}
 use Rattle.machine.proofs.Parts.{runs, row-of, moved, same-store, both-parts, select-parts, case-parts, while-parts, for-parts, simple-parts, first-row}
-use Rattle.machine.proofs.Ways.{spent-way, simple-way, both-way, select-way, case-way, while-way, for-way, left-of, ends-typed, both-ends, both-stops, branch-action, answered-same, state-same, paid-left, heard-left, branch-over, branch-rest, branch-first, branch-next, select-none, select-ended, select-negative, select-branch}
+use Rattle.machine.proofs.Ways.{spent-way, simple-way, both-way, select-way, case-way, while-way, for-way, left-of, ends-typed, both-ends, both-stops, branch-action, paid-left, heard-left, branch-over, branch-rest, branch-first, branch-next, select-none, select-ended, select-negative, select-branch}
 use Rattle.machine.proofs.Loops.{Whiles, while-first, while-test, while-ends, while-unsure, while-stops, while-less, while-more, Fors, for-range, for-slot, for-first, for-is, for-ends, for-unsure, slot-of, for-stops, for-less, for-more}
 use Rattle.machine.proofs.Arms.{case-arms, case-is, case-unknown, arm-finds, arm-action, arm-found, arm-none, arm-unsure}
 use Rattle.machine.proofs.Helpers.{told-as, paid, heard, run-same, from-same}

@@ -6,43 +6,30 @@ use Rattle.machine.proofs.{Ways.ran, Helpers.again-spent, Helpers.again
 use borrow.Author.Needs.{needs}
 use Rattle.machine.proofs.again.Statement.{statement}
 use Rattle.machine.proofs.again.Tie as tie
-use Rattle.machine.proofs.again.Reads as reads
-use Rattle.machine.proofs.again.Lts as lts
-use Rattle.told.proofs.charge.Reads as charge-reads
-use Rattle.told.proofs.left.Reads as left-reads
-use Rattle.told.proofs.stopped.Reads as stopped-reads
 
--- src/lib.rt:67:9
 returns : tie.Need-returns
 returns c = again-over _ (out-over (c .before .before .args .p) (c .if1 .taken))
 
--- src/lib.rt:69:8
 left-requires : tie.Need-left-requires
 left-requires c κs = search needs
 
--- src/lib.rt:70:9
 stopped-requires : tie.Need-stopped-requires
 stopped-requires c κs = search needs
 
--- src/lib.rt:70:9
 same-length : tie.Need-same-length
 same-length c = search needs
 
--- src/lib.rt:70:9
 returns-2 : tie.Need-returns-2
 returns-2 c =
     let o = c .before .before .before .before .before .before in
     again-spent _ (sym (ends-at (o .args .p) (c .before .before .before .before .if1 .left))) (sym (c .before .before .left .ensures) ∙ c .before .if2 .taken) (ap (λ (u : Outcome). ran u (runOf (o .args .run .now))) (c .stopped .ensures))
 
--- src/lib.rt:72:5
 charge-requires : tie.Need-charge-requires
 charge-requires c κs = search needs
 
--- src/lib.rt:62:1
 same-length-2 : tie.Need-same-length-2
 same-length-2 c = search needs
 
--- src/lib.rt:62:1
 returns-3 : tie.Need-returns-3
 returns-3 c =
     let o = c .before .before .before .before .before .before .before .before .before in

@@ -5,25 +5,16 @@ use Rattle.machine.proofs.Helpers.{blocked-late}
 use borrow.Author.Needs.{needs}
 use Rattle.machine.proofs.blocked.Statement.{statement}
 use Rattle.machine.proofs.blocked.Tie as tie
-use Rattle.machine.proofs.blocked.Reads as reads
-use Rattle.machine.proofs.blocked.Lts as lts
-use Rattle.actions.proofs.blocked_at.Reads as blocked-at-reads
-use Rattle.told.proofs.spoken.Reads as spoken-reads
-use Rattle.told.proofs.stopped.Reads as stopped-reads
 
--- src/lib.rt:58:27
 spoken-requires : tie.Need-spoken-requires
 spoken-requires c κs = search needs
 
--- src/lib.rt:58:13
 blocked-at-requires : tie.Need-blocked-at-requires
 blocked-at-requires c κs = search needs
 
--- src/lib.rt:58:5
 stopped-requires : tie.Need-stopped-requires
 stopped-requires c κs = blocked-late (c .before .spoken .result) (c .before .before .before .args .r) (c .blocked-at .ensures)
 
--- src/lib.rt:54:1
 returns : tie.Need-returns
 returns c = c .stopped .ensures ∙ ap Stops (c .before .blocked-at .ensures) ∙ ap (λ (b : Bool). Stops (cond b (BlockedSpoken (row (c .before .before .before .before .args .r))) (Blocked (row (c .before .before .before .before .args .r))))) (c .before .before .spoken .ensures)
 

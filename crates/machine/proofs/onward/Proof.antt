@@ -7,59 +7,42 @@ use Rattle.machine.proofs.Helpers.{onward-over, onward-unknown, onward-
 use borrow.Author.Needs.{needs}
 use Rattle.machine.proofs.onward.Statement.{statement}
 use Rattle.machine.proofs.onward.Tie as tie
-use Rattle.machine.proofs.onward.Reads as reads
-use Rattle.machine.proofs.onward.Lts as lts
-use Rattle.expressions.proofs.value.Reads as value-reads
-use Rattle.told.proofs.stopped.Reads as stopped-reads
-use Rattle.values.proofs.plus.Reads as plus-reads
 
--- src/lib.rt:82:9
 returns : tie.Need-returns
 returns c = onward-over _ _ (out-over (c .before .args .p) (c .if1 .taken))
 
--- src/lib.rt:84:11
 value-requires : tie.Need-value-requires
 value-requires c κs = search needs
 
--- src/lib.rt:85:19
 enum-known-z : tie.Need-enum-known-z
 enum-known-z c = search needs
 
--- src/lib.rt:86:33
 plus-requires : tie.Need-plus-requires
 plus-requires c κs = plus-range (c .before .before .before .before .before .before .pre) (sym (ends-at (c .before .before .before .before .before .before .args .p) (c .before .before .before .before .before .if1 .left))) (c .before .before .before .value .ensures) (c .before .z .given .1)
 
--- src/lib.rt:86:13
 mul-t13 : tie.Need-mul-t13
 mul-t13 c = search needs
 
--- src/lib.rt:86:13
 slice-set-from-store : tie.Need-slice-set-from-store
 slice-set-from-store c = search needs
 
--- src/lib.rt:89:54
 enum-told : tie.Need-enum-told
 enum-told c = search needs
 
--- src/lib.rt:89:27
 stopped-requires : tie.Need-stopped-requires
 stopped-requires c κs = search needs
 
--- src/lib.rt:77:1
 same-length : tie.Need-same-length
 same-length c = search needs
 
--- src/lib.rt:77:1
 returns-2 : tie.Need-returns-2
 returns-2 c =
     let e = sym (ends-at (c .before .before .before .before .before .before .before .args .p) (c .before .before .before .before .before .before .if1 .left)) in
     onward-is _ _ e (c .before .before .before .before .value .ensures) out-ends (c .before .before .z .given .1) (held-is (c .plus .result) (c .plus .ok) ∙ c .plus .ensures ∙ ap (λ (z : ℤ). plus half16 z (pos 1)) (value-held (c .before .before .before .before .before .before .before .pre) e (c .before .before .before .before .value .ensures) (c .before .before .z .given .1)))
 
--- src/lib.rt:77:1
 same-length-2 : tie.Need-same-length-2
 same-length-2 c = search needs
 
--- src/lib.rt:77:1
 returns-3 : tie.Need-returns-3
 returns-3 c = onward-unknown _ _ (sym (ends-at (c .before .before .before .before .before .before .args .p) (c .before .before .before .before .before .if1 .left))) (c .before .before .before .value .ensures) (c .before .enum-told .given .1) (c .stopped .ensures)
 

@@ -3,10 +3,6 @@ use borrow.Author.Needs.{needs}
 use Rattle.numerals.proofs.Reading.{fits-plus, fits-minus, over-plus, over-minus}
 use Rattle.numerals.proofs.number.Statement.{statement}
 use Rattle.numerals.proofs.number.Tie as tie
-use Rattle.numerals.proofs.number.Reads as reads
-use Rattle.numerals.proofs.number.Lts as lts
-use Rattle.numerals.proofs.negative.Reads as negative-reads
-use Rattle.values.proofs.round.Reads as round-reads
 
 enum-told : tie.Need-enum-told
 enum-told c = search needs

@@ -5,10 +5,6 @@ use Rattle.numerals.specs.Numerals.{fits}
 use Rattle.numerals.proofs.Reading.{word-none, word-plus, word-dash, word-dashes, word-minus, word-one}
 use Rattle.numerals.proofs.read.Statement.{statement}
 use Rattle.numerals.proofs.read.Tie as tie
-use Rattle.numerals.proofs.read.Reads as reads
-use Rattle.numerals.proofs.read.Lts as lts
-use Rattle.numerals.proofs.digits.Reads as digits-reads
-use Rattle.numerals.proofs.number.Reads as number-reads
 
 returns : tie.Need-returns
 returns c = word-none _ (c .if1 .taken)

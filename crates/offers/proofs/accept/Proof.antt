@@ -2,10 +2,6 @@ use borrow.Author.Needs.{needs}
 use Rattle.offers.proofs.Accepted.{emission, accepts-emission, receipt, accepts-receipt}
 use Rattle.offers.proofs.accept.Statement.{statement}
 use Rattle.offers.proofs.accept.Tie as tie
-use Rattle.offers.proofs.accept.Reads as reads
-use Rattle.offers.proofs.accept.Lts as lts
-use Rattle.offers.proofs.emit.Reads as emit-reads
-use Rattle.offers.proofs.receive.Reads as receive-reads
 
 emit-requires : tie.Need-emit-requires
 emit-requires c κs = emission (c .before .before .before .before .before .pre) (c .before .if1 .taken)

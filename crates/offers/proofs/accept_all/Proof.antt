@@ -7,11 +7,6 @@ use Rattle.actions.proofs.Listed.{here-row}
 use Rattle.offers.proofs.Offering.{Along, along-first, along-end, asks, along-less, count-in, along-refused, along-step}
 use Rattle.offers.proofs.accept_all.Statement.{statement}
 use Rattle.offers.proofs.accept_all.Tie as tie
-use Rattle.offers.proofs.accept_all.Reads as reads
-use Rattle.offers.proofs.accept_all.Lts as lts
-use Rattle.actions.proofs.at_word.Reads as at-word-reads
-use Rattle.expressions.proofs.row.Reads as row-reads
-use Rattle.offers.proofs.accept.Reads as accept-reads
 
 abbrev Inv-loop : tie.InvT-loop
 Inv-loop image i place w store₀ script values₀ run words₀ count₀ r₀ store values words count r =

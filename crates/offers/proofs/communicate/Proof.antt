@@ -2,9 +2,6 @@ use borrow.Author.Needs.{needs}
 use Rattle.offers.proofs.Offering.{offers-ask, said-twice, said-first}
 use Rattle.offers.proofs.communicate.Statement.{statement}
 use Rattle.offers.proofs.communicate.Tie as tie
-use Rattle.offers.proofs.communicate.Reads as reads
-use Rattle.offers.proofs.communicate.Lts as lts
-use Rattle.offers.proofs.accept_all.Reads as accept-all-reads
 
 returns : tie.Need-returns
 returns c = said-twice _ _ _ _ _ (c .before .before .before .args .run) _ _ (c .if1 .taken)

@@ -2,9 +2,6 @@ use borrow.Author.Needs.{needs}
 use Rattle.offers.proofs.Accepted.{emits-value, emits-unknown}
 use Rattle.offers.proofs.emit.Statement.{statement}
 use Rattle.offers.proofs.emit.Tie as tie
-use Rattle.offers.proofs.emit.Reads as reads
-use Rattle.offers.proofs.emit.Lts as lts
-use Rattle.expressions.proofs.eval.Reads as eval-reads
 
 eval-requires : tie.Need-eval-requires
 eval-requires c κs = search needs

@@ -2,18 +2,10 @@ use borrow.Author.Needs.{needs}
 use mathlib.Core.Path.{_≡_}
 use Prim.Native.Nat.{ℕ}
 use native.Mathlib.Omega.{arith}
-use Rattle.typing.specs.Rules.{OfKind}
-use Rattle.patterns.specs.Matching.{Tries}
 use Rattle.actions.proofs.Drawing.{word-inside}
 use Rattle.offers.proofs.Accepted.{pattern-asks, type-inside, receives-ended, receives-out, tries, receives-matched, receives-failed, receives-unsure}
 use Rattle.offers.proofs.receive.Statement.{statement}
 use Rattle.offers.proofs.receive.Tie as tie
-use Rattle.offers.proofs.receive.Reads as reads
-use Rattle.offers.proofs.receive.Lts as lts
-use Rattle.actions.proofs.read_word.Reads as read-word-reads
-use Rattle.image.proofs.size.Reads as size-reads
-use Rattle.patterns.proofs.matches.Reads as matches-reads
-use Rattle.typing.proofs.type_of_pattern.Reads as type-of-pattern-reads
 
 type-of-pattern-requires : tie.Need-type-of-pattern-requires
 type-of-pattern-requires c κs = pattern-asks (c .before .before .pre)

@@ -4,13 +4,6 @@ use Rattle.expressions.proofs.Ways.{row-from}
 use Rattle.simple.proofs.Acts.{here, reset-items, assign-way, choose-way, reset-way, communicate-way, to-way, null-way}
 use Rattle.simple.proofs.run_simple.Statement.{statement}
 use Rattle.simple.proofs.run_simple.Tie as tie
-use Rattle.simple.proofs.run_simple.Reads as reads
-use Rattle.simple.proofs.run_simple.Lts as lts
-use Rattle.actions.proofs.choose.Reads as choose-reads
-use Rattle.actions.proofs.reset.Reads as reset-reads
-use Rattle.actions.proofs.run_assign.Reads as run-assign-reads
-use Rattle.expressions.proofs.row.Reads as row-reads
-use Rattle.offers.proofs.communicate.Reads as communicate-reads
 
 row-requires : tie.Need-row-requires
 row-requires c κs =

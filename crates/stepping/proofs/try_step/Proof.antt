@@ -1,50 +1,38 @@
 use borrow.Author.Needs.{needs}
-use native.Mathlib.Omega.{arith}
 use Rattle.stepping.proofs.Trying.{state-there, runs-there, tried}
 use Rattle.stepping.proofs.try_step.Statement.{statement}
 use Rattle.stepping.proofs.try_step.Tie as tie
 
--- src/lib.rt:117:9
 slice-aggregate-put : tie.Need-slice-aggregate-put
 slice-aggregate-put c = search needs
 
--- src/lib.rt:109:5
 put-requires : tie.Need-put-requires
 put-requires c κs = search needs
 
--- src/lib.rt:119:9
 state-row-requires : tie.Need-state-row-requires
 state-row-requires c κs = state-there (c .before .before .before .before .before .pre)
 
--- src/lib.rt:120:64
 slice-aggregate-run-action : tie.Need-slice-aggregate-run-action
 slice-aggregate-run-action c = search needs
 
--- src/lib.rt:120:9
 run-action-requires : tie.Need-run-action-requires
 run-action-requires c κs = (runs-there (c .before .before .before .before .before .before .before .before .before .pre) (c .before .before .before .state-row .ensures), search needs)
 
--- src/lib.rt:122:14
 outcome-requires : tie.Need-outcome-requires
 outcome-requires c κs = search needs
 
--- src/lib.rt:123:20
 slice-aggregate-taken : tie.Need-slice-aggregate-taken
 slice-aggregate-taken c = search needs
 
--- src/lib.rt:123:14
 taken-requires : tie.Need-taken-requires
 taken-requires c κs = search needs
 
--- src/lib.rt:96:1
 same-length : tie.Need-same-length
 same-length c = search needs
 
--- src/lib.rt:96:1
 same-length-2 : tie.Need-same-length-2
 same-length-2 c = search needs
 
--- src/lib.rt:96:1
 returns : tie.Need-returns
 returns c =
     tried (c .before .before .before .before .before .before .before .before .before .before .before .before .before .before .before .before .pre) _ _ _ (c .before .before .before .before .before .before .before .before .before .before .state-row .ensures) (c .before .before .outcome .ensures) (c .taken .ensures) (c .before .before .before .before .before .before .before .before .before .before .before .before .put .ensures) (c .before .before .before .before .before .before .run-action .ensures)

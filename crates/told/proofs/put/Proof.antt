@@ -1,50 +1,36 @@
 use borrow.Author.Needs.{needs}
-use native.Mathlib.Omega.{arith}
-use Rattle.told.proofs.Coded.{as-21, as-22, as-23, as-24, as-25, as-26, as-27, number-most, out-ends, ends-at, jumps-at, stops-at, jump-told, stop-told}
 use Rattle.told.proofs.Kept.{set-1, set-2, set-3, set-all}
-use mathlib.Core.Path.{refl, sym, ap, _∙_}
+use mathlib.Core.Path.{_∙_}
 use Rattle.told.proofs.put.Statement.{statement}
 use Rattle.told.proofs.put.Tie as tie
-use Rattle.told.proofs.put.Reads as reads
-use Rattle.told.proofs.put.Lts as lts
 
--- src/lib.rt:98:5
 slice-write-run : tie.Need-slice-write-run
 slice-write-run c = search needs
 
--- src/lib.rt:99:5
 slice-write-run-2 : tie.Need-slice-write-run-2
 slice-write-run-2 c = set-1 (c .args .run .now) (c .args .q .words) (c .pre)
 
--- src/lib.rt:100:19
 cast-run : tie.Need-cast-run
 cast-run c = search needs
 
--- src/lib.rt:100:5
 slice-write-run-3 : tie.Need-slice-write-run-3
 slice-write-run-3 c = set-2 (c .before .args .run .now) (c .before .args .q .words) (c .before .args .q .left) (c .before .pre)
 
--- src/lib.rt:101:17
 cast-run-2 : tie.Need-cast-run-2
 cast-run-2 c = search needs
 
--- src/lib.rt:101:5
 slice-write-run-4 : tie.Need-slice-write-run-4
 slice-write-run-4 c = set-3 (c .before .before .args .run .now) (c .before .before .args .q .words) (c .before .before .args .q .left) _ (c .before .before .pre)
 
--- src/lib.rt:102:18
 cast-run-3 : tie.Need-cast-run-3
 cast-run-3 c = search needs
 
--- src/lib.rt:102:5
 slice-write-run-5 : tie.Need-slice-write-run-5
 slice-write-run-5 c = search needs
 
--- src/lib.rt:94:1
 same-length : tie.Need-same-length
 same-length c = search needs
 
--- src/lib.rt:94:1
 returns : tie.Need-returns
 returns c =
     let o = c .before .before .before in

@@ -5,12 +5,6 @@ use native.Mathlib.Omega.{arith}
 use lib.Seq.{length-take-le}
 use Rattle.runner.proofs.asked.automaton.Statement.{statement}
 use Rattle.runner.proofs.asked.automaton.Tie as tie
-use Rattle.runner.proofs.asked.automaton.Reads as reads
-use Rattle.runner.proofs.asked.automaton.Lts as lts
-use Rattle.runner.proofs.asked.complain.Reads as complain-reads
-use Rattle.runner.proofs.asked.numbers.Reads as numbers-reads
-use Rattle.runner.proofs.asked.script.Reads as script-reads
-use Rattle.runner.proofs.load.run.Reads as run-reads
 
 returns : tie.Need-returns
 returns c = search needs

@@ -5,10 +5,6 @@ use Prim.Native.Nat.{_-_, _≤_}
 use lib.ListN.{length, length-set}
 use Rattle.runner.proofs.asked.numbers.Statement.{statement}
 use Rattle.runner.proofs.asked.numbers.Tie as tie
-use Rattle.runner.proofs.asked.numbers.Reads as reads
-use Rattle.runner.proofs.asked.numbers.Lts as lts
-use Rattle.runner.proofs.asked.argument.Reads as argument-reads
-use Rattle.runner.proofs.asked.complain.Reads as complain-reads
 
 abbrev Inv-loop : tie.InvT-loop
 Inv-loop from end given₀ i₀ k₀ wrong₀ t8 t9 given i k wrong = (length given₀ ≡ length given) × (k ≤ length given)

@@ -4,8 +4,6 @@ use Prim.Native.Nat.{_-_}
 use lib.ListN.{length}
 use Rattle.runner.proofs.asked.same.Statement.{statement}
 use Rattle.runner.proofs.asked.same.Tie as tie
-use Rattle.runner.proofs.asked.same.Reads as reads
-use Rattle.runner.proofs.asked.same.Lts as lts
 
 abbrev Inv-loop : tie.InvT-loop
 Inv-loop a b i₀ i = Unit {0}

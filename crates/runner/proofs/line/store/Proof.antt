@@ -4,10 +4,6 @@ use Prim.Native.Nat.{_-_}
 use lib.ListN.{length}
 use Rattle.runner.proofs.line.store.Statement.{statement}
 use Rattle.runner.proofs.line.store.Tie as tie
-use Rattle.runner.proofs.line.store.Reads as reads
-use Rattle.runner.proofs.line.store.Lts as lts
-use Rattle.runner.proofs.line.slot.Reads as slot-reads
-use Rattle.runner.proofs.line.text.Reads as text-reads
 
 abbrev Inv-loop : tie.InvT-loop
 Inv-loop words i₀ t4 i = Unit {0}

@@ -4,11 +4,6 @@ use Prim.Native.Nat.{_-_, _≤_}
 use lib.ListN.{length}
 use Rattle.runner.proofs.line.values.Statement.{statement}
 use Rattle.runner.proofs.line.values.Tie as tie
-use Rattle.runner.proofs.line.values.Reads as reads
-use Rattle.runner.proofs.line.values.Lts as lts
-use Rattle.runner.proofs.line.signed.Reads as signed-reads
-use Rattle.runner.proofs.line.text.Reads as text-reads
-use Rattle.values.proofs.size.Reads as size-reads
 
 abbrev Inv-loop : tie.InvT-loop
 Inv-loop words i₀ count t4 i = 2 ≤ i

@@ -5,10 +5,6 @@ use native.Mathlib.Omega.{arith}
 use lib.Seq.{length-take-le}
 use Rattle.runner.proofs.load.run.Statement.{statement}
 use Rattle.runner.proofs.load.run.Tie as tie
-use Rattle.runner.proofs.load.run.Reads as reads
-use Rattle.runner.proofs.load.run.Lts as lts
-use Rattle.runner.proofs.load.bytes.Reads as bytes-reads
-use Rattle.runner.proofs.run.automaton.Reads as automaton-reads
 
 slice-aggregate-bytes : tie.Need-slice-aggregate-bytes
 slice-aggregate-bytes c = search needs

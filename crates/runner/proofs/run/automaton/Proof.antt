@@ -5,11 +5,6 @@ use native.Mathlib.Omega.{arith}
 use lib.Seq.{length-take-le}
 use Rattle.runner.proofs.run.automaton.Statement.{statement}
 use Rattle.runner.proofs.run.automaton.Tie as tie
-use Rattle.runner.proofs.run.automaton.Reads as reads
-use Rattle.runner.proofs.run.automaton.Lts as lts
-use Rattle.runner.proofs.run.begin.Reads as begin-reads
-use Rattle.runner.proofs.run.checked.Reads as checked-reads
-use Rattle.runner.proofs.run.variables.Reads as variables-reads
 
 variables-requires : tie.Need-variables-requires
 variables-requires c κs = search needs

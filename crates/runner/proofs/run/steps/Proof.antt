@@ -4,11 +4,6 @@ use mathlib.Core.Path.{_≡_}
 use lib.ListN.{length}
 use Rattle.runner.proofs.run.steps.Statement.{statement}
 use Rattle.runner.proofs.run.steps.Tie as tie
-use Rattle.runner.proofs.run.steps.Reads as reads
-use Rattle.runner.proofs.run.steps.Lts as lts
-use Rattle.runner.proofs.line.left.Reads as left-reads
-use Rattle.runner.proofs.line.text.Reads as text-reads
-use Rattle.runner.proofs.run.one.Reads as one-reads
 
 abbrev Inv-loop : tie.InvT-loop
 Inv-loop image store₀ script label₀ p₀ left₀ t8 store label p left = (length store₀ ≡ length store) × (length label₀ ≡ length label)
