@@ -5,6 +5,7 @@ use crate::build::Length;
 use crate::build::build;
 use crate::build::states;
 use crate::scan::sections;
+use bytes::scan::find;
 use model::Verdict;
 
 // Bytes kept for an image, and words for its sets.
@@ -88,21 +89,6 @@ fn case(line: &[u8], from: usize) {
     }
 }
 
-// The first place from a place on at which a byte stands, or the length.
-fn find(text: &[u8], from: usize, b: u8) -> usize
-    requires { ⌜ from ≤ length (now text) ⌝ }
-    ensures { λ r. ⌜ (from ≤ r) × (r ≤ length (now (text .entry))) ⌝ }
-{
-    let mut i = from;
-    while i < text.len() {
-        if text[i] == b {
-            return i;
-        }
-        i += 1;
-    }
-    text.len()
-}
-
 // The last place at which a byte stands, or the length.
 fn last(text: &[u8], b: u8) -> usize
     ensures { λ r. ⌜ r ≤ length (now (text .entry)) ⌝ }
@@ -133,7 +119,7 @@ fn line(text: &[u8]) {
 pub(crate) fn lines(text: &[u8]) {
     let mut at = 0;
     while at < text.len() {
-        let end = find(text, at, b'\n');
+        let end = find(text, at, text.len(), b'\n');
         line(&text[at..end]);
         at = end + 1;
     }

@@ -3,21 +3,7 @@ ghost use Prim.Native.Nat.{_≤_};
 ghost use lib.ListN.{length};
 use crate::answer;
 use crate::calls::case;
-
-// The first place from a place on at which a byte stands, or the length.
-fn find(text: &[u8], from: usize, b: u8) -> usize
-    requires { ⌜ from ≤ length (now text) ⌝ }
-    ensures { λ r. ⌜ (from ≤ r) × (r ≤ length (now (text .entry))) ⌝ }
-{
-    let mut i = from;
-    while i < text.len() {
-        if text[i] == b {
-            return i;
-        }
-        i += 1;
-    }
-    text.len()
-}
+use bytes::scan::find;
 
 // The last place at which a byte stands, or the length.
 fn last(text: &[u8], b: u8) -> usize
@@ -75,7 +61,7 @@ fn line(text: &[u8]) {
 pub(crate) fn lines(text: &[u8]) {
     let mut at = 0;
     while at < text.len() {
-        let end = find(text, at, b'\n');
+        let end = find(text, at, text.len(), b'\n');
         line(&text[at..end]);
         at = end + 1;
     }
