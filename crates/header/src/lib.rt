@@ -1,9 +1,9 @@
 // The refusals 1 to 4: length, mark, starts and counts, entries of types and variables.
 ghost use mathlib.Core.Path.{_≡_};
 ghost use mathlib.Core.Bool.{true};
-ghost use Prim.Native.Nat.{ℕ, suc, _+_, _≤_, _<_};
+ghost use Prim.Native.Nat.{_≤_, _<_};
 ghost use lib.ListN.{length, drop};
-ghost use Rattle.model.specs.Image.{lengthFits, marked, trailerOf, tableFits, startsFit, tablesOf, othersFit, sizesFit, entriesFit, entriesRight};
+ghost use Rattle.model.specs.Image.{lengthFits, marked, trailerOf, tableFits, startsFit, tablesOf, othersFit, sizesFit, entriesFit};
 ghost use Rattle.image.specs.Located.{Located, headerVerdict};
 use image::parameter;
 use image::size;

@@ -3,7 +3,6 @@ mod flow;
 
 ghost use mathlib.Core.Path.{_≡_};
 ghost use Prim.Native.Nat.{_≤_, _<_};
-ghost use lib.ListN.{length};
 ghost use Rattle.model.specs.Masks.{full};
 ghost use Rattle.model.specs.Image.{tablesOf};
 ghost use Rattle.model.specs.Largest.{begun};
