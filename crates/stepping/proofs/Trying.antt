@@ -14,7 +14,8 @@ use Rattle.model.proofs.Passed.{passed}
 use Rattle.image.specs.Located.{StateOf}
 use Rattle.image.proofs.Laid.{states-count}
 use Rattle.machine.specs.Running.{Running}
-use Rattle.actions.specs.State.{stateOf}
+use Rattle.actions.specs.declared.{Run.Run}
+use Rattle.actions.specs.State.{stateOf, resultOf}
 use Rattle.stepping.specs.Stepping.{Trying}
 use Rattle.stages.proofs.Cleared.{located}
 
