@@ -9,7 +9,7 @@ use Rattle.model.specs.Image.{Tables, none, tablesOf, fieldsOf, rowCount}
 use Rattle.model.specs.Rows.{Kind, offer, OfferRow, isEmit, isReceive, anOffer, meansAt, isKind, nextOf}
 use Rattle.model.specs.Decode.{offerOf, offersAt}
 use Rattle.model.specs.Binding.{useOfOffer, defOfOffer, distinct, ordered}
-use Rattle.model.proofs.Rows.{Formed, Named, kind-of, is-kind, kind-in, row-is, next-named}
+use Rattle.model.proofs.Rows.{Formed, Named, kind-of, is-kind, kind-in, row-is, next-named, and-false}
 use Rattle.model.proofs.Decode.{listAt-none, listAt-step}
 use Rattle.image.specs.Located.{RowOf}
 use Rattle.masks.specs.Masks.{useAt, defAt}
@@ -17,10 +17,6 @@ use Rattle.masks.specs.Rows.{maskIn}
 use Rattle.masks.proofs.ByKind.{next-is, use-expression, def-expression, use-pattern, def-pattern, def-offers}
 use Rattle.binding.specs.Bound.{boundOffers, Offers}
 use Rattle.binding.proofs.Readings.{ok, short, in-rows, few, read-use, read-def}
-
-and-false : (a : Bool) → false ≡ (a && false)
-and-false true = refl
-and-false false = refl
 
 -- what an offer's row says of itself and of the row that it names
 record Own (x : Tables) (r : ℕ) : Type 0 where
@@ -121,7 +117,7 @@ module _ {s : List ℕ} {i : Image} {r : ℕ} {uses defs : List ℕ} (v : Offers
 
         module _ (a b : Bool) (t : a ≡ apart d later) (y : b ≡ apart u later) where
           pub offer-uses : b ≡ false → false ≡ boundOffers (offersAt (tablesOf s) r)
-          offer-uses q = sym (offer-turn ∙ rw (← y, q) (sym (and-false (apart d later && distinct (map defOfOffer (offersAt (tablesOf s) (w .b)))))))
+          offer-uses q = sym (offer-turn ∙ rw (← y, q) (and-false (apart d later && distinct (map defOfOffer (offersAt (tablesOf s) (w .b))))))
 
           pub offer-passes : a ≡ true → b ≡ true → boundOffers (offersAt (tablesOf s) (w .b)) ≡ boundOffers (offersAt (tablesOf s) r)
           unfolding boundOffers

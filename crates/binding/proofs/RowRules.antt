@@ -1,23 +1,23 @@
 -- The rule of one row: by what it means, then by its code. Assumes nothing.
-use mathlib.Core.{Path._≡_, Path.refl, Path.sym, Path.ap, Path._∙_, Path.subst, Logic._⊎_, Logic.inl, Logic.inr, Bool.Bool, Bool.true, Bool.false, Bool._&&_, List.List}
+use mathlib.Core.{Path._≡_, Path.refl, Path.sym, Path.ap, Path._∙_, Path.subst, Logic._⊎_, Logic.inl, Logic.inr, Bool.Bool, Bool.true, List.List}
 use Prim.Native.Nat.{ℕ, _≤_, _<_}
 use native.Mathlib.{Decide.decLt, Omega.arith}
 use lib.{Dec.ltb, ListN.length}
 use borrow.Author.Tests.{eq-eqb, ne-eqb}
 use Rattle.model.specs.declared.{Fields.Fields, Image.Image}
 use Rattle.model.specs.Masks.{apart, inside}
-use Rattle.model.specs.Lists.{all}
 use Rattle.model.specs.Image.{Tables, none, tablesOf, fieldsOf}
 use Rattle.model.specs.Rows.{Kind, expression, gets, ofType, item, isNull, isAssign, isChoose, isReset, isCommunicate, isTo, isThen, isSelect, isCase, isWhile, isFor, Means, anExpression, aPattern, anOffer, anAction, another, Shape, codes, lookup, shapeOf, meansAt, isKind, isRoot}
 use Rattle.model.specs.Decode.{offersAt, growAction, ruleAt}
 use Rattle.model.specs.Binding.{boundAct, distinct, parametersOf, bound}
-use Rattle.model.proofs.Rows.{Formed, Named, Row, row-of, row-is, is-kind, both-true}
+use Rattle.model.proofs.Rows.{Formed, Named, Row, row-of, row-is, is-kind, both-true, and-true}
+use Rattle.model.proofs.Codes.{shape-past}
 use Rattle.model.proofs.Decode.{actionAt-is}
 use Rattle.image.specs.Located.{RowOf}
 use Rattle.image.proofs.Laid.{condition-is}
 use Rattle.masks.specs.Masks.{useAt, defAt}
 use Rattle.masks.specs.Rows.{maskIn}
-use Rattle.masks.proofs.ByCode.{each-at, allFrom, all-from, beyond}
+use Rattle.masks.proofs.ByCode.{each-at, allFrom, all-from}
 use Rattle.masks.proofs.ByKind.{use-expression, def-action, def-range}
 use Rattle.binding.specs.Bound.{bitsAt, boundOffers, Item, Vector, Offers, Rule}
 use Rattle.binding.proofs.Readings.{ok, read-use, read-def}
@@ -65,10 +65,6 @@ module _ (x : Tables) (good : Formed x) (r : ℕ) where
   by-means (another k) q t = rw (q, ruleAt)
 
   -- of a row that isn't the condition's, and of the condition's
-  and-true : (b : Bool) → (b && true) ≡ b
-  and-true true = refl
-  and-true false = refl
-
   pub bound-other : (r ≡ x .condition → ⊥) → bound x r ≡ boundBy x W (meansAt x r)
   unfolding bound
   bound-other f = rw (ne-eqb r (x .condition) f, and-true) (by-means (meansAt x r) refl (row-of x good r))
@@ -107,7 +103,7 @@ module _ (x : Tables) (w : Fields) where
 
   unknown-high : (c : ℕ) → 61 ≤ c → true ≡ At c
   unfolding boundBy shapeOf codes
-  unknown-high c h = sym (ap (λ (s : Shape). boundBy x w (s .means)) (beyond codes c (unfold all in refl) h))
+  unknown-high c h = sym (ap (λ (s : Shape). boundBy x w (s .means)) (shape-past c h))
 
   pub at-high : 52 ≤ w .code → (w .code ≡ 52 → ⊥) → (w .code ≡ 60 → ⊥) → true ≡ At (w .code)
   at-high h f g = go (decLt (w .code) 60)

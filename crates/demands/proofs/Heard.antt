@@ -12,7 +12,7 @@ use Rattle.model.specs.Trees.{Exp, var, const, unary, binary, Offer, emit, rece
 use Rattle.model.specs.Typing.{typeOfExp, typeOfPat}
 use Rattle.model.specs.Speech.{Ways, endsAs, either, isAlways, someCatchesAll, someCatches, exhaustive, speech, speechAct, speechBranches, speechArms, wellSpoken}
 use Rattle.model.specs.Run.{store, eval, test, match, Label, ε, on, spoken, St, Res, gives, stored, blockedAt, blocked, andThen, storing, assigning, choosing, offering, communicating, toLow, atMostHigh, onward, exec, execAct, execBranch, execArms}
-use Rattle.model.proofs.Rows.{both-true}
+use Rattle.model.proofs.Rows.{both-true, and-false}
 use Rattle.model.proofs.Run.{if-rule, match-rule}
 use Rattle.demands.proofs.All.{All, nil, cons}
 use Rattle.demands.proofs.Whole.{Whole}
@@ -48,10 +48,6 @@ fine n e =
     let p = both-true (ltb 21 n) _ e in
     let a = ltb-true 21 n (p .0) in
     record { low = omega arith; high = omega (arith, ltb-true n 26); said = λ d. a }
-
-and-false : (b : Bool) → (b && false) ≡ false
-and-false true = refl
-and-false false = refl
 
 -- the constant true doesn't fail
 fails-not-always : (x : Tables) (e : Exp) (m : List ℤ) → test x e m ≡ Fails → isAlways e ≡ false

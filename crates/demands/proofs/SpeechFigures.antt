@@ -9,6 +9,7 @@ use Rattle.model.specs.Typing.{typeOfExp}
 use Rattle.model.specs.Speech.{Ways, endsAs, either, entered, needs, isAlways, exhaustive, quietLoop, speech, speechAct, speechBranches, speechArms, wellSpoken}
 use Rattle.model.specs.Run.{onward}
 use Rattle.model.specs.Figure2.{expansion}
+use Rattle.model.proofs.Rows.{and-true}
 use Rattle.demands.specs.Figures.{reachTo, reachToAct, reachToBranches, reachToArms, wellDef, wellDefAct, wellDefBranches, wellDefArms}
 
 abbrev pub imp : Bool → Bool → Bool
@@ -19,10 +20,6 @@ abbrev pub after : Ways → Bool → Bool → Bool
 after v w r = v .right && (imp (v .quiet) w && imp (v .spoken) r)
 
 -- ---- Booleans
-and-true : (a : Bool) → (a && true) ≡ a
-and-true true = refl
-and-true false = refl
-
 imp-true : (a : Bool) → imp a true ≡ true
 imp-true true = refl
 imp-true false = refl

@@ -2,14 +2,14 @@
 use mathlib.Core.{Path._≡_, Path.refl, Path.sym, Path.ap, Path._∙_, Path.subst, Logic._⊎_, Logic.inl, Logic.inr, Logic.⊎-elim, Bool.Bool, Bool.true, Bool.false, Bool._&&_, Bool._||_, Bool.true≢false, List.List, List.[], List._∷_}
 use Prim.Native.Nat.{ℕ, zero, suc, _+_, _≤_, _<_}
 use native.Mathlib.{Nat.eq-or-lt-of-le, Decide.decLt, Omega.arith}
-use lib.{Dec.eqb, Dec.leb, Dec.ltb, Bits.bitOr}
-use borrow.Author.Tests.{ltb-true, leb-true, eqb-true, ne-eqb}
+use lib.{Dec.eqb, Dec.leb, Bits.bitOr}
+use borrow.Author.Tests.{leb-true, eqb-true, ne-eqb}
 use Rattle.model.specs.declared.Fields.{Fields}
 use Rattle.model.specs.Masks.{bit, join, without}
-use Rattle.model.specs.Lists.{all}
 use Rattle.model.specs.Image.{between}
-use Rattle.model.specs.Rows.{Shape, line, unused, another, unknown, codes, lookup, shapeOf}
+use Rattle.model.specs.Rows.{Shape, codes, lookup, shapeOf}
 use Rattle.model.proofs.Rows.{both-true, one-true}
+use Rattle.model.proofs.Codes.{shape-past}
 use Rattle.masks.specs.declared.Masks.{Masks}
 use Rattle.masks.specs.Rows.{masks, masksBy, Small}
 
@@ -33,18 +33,6 @@ all-from p i zero t c h k = absurd (omega arith)
 all-from p i (suc n) t c h k =
     let q = both-true (p i) (allFrom p (suc i) n) t in
     ⊎-elim (λ (e : i ≡ c). rw e at (q .0)) (λ l. all-from p (suc i) n (q .1) c (omega arith) (omega arith)) (eq-or-lt-of-le {n = i} {m = c} h)
-
--- no code is 61 or more
-pub beyond : (l : List Shape) (c : ℕ) → all (λ s. ltb (s .code) 61) l ≡ true → 61 ≤ c → lookup l c ≡ line c (another unknown) unused unused unused
-unfolding all lookup
-beyond [] c t h = refl
-beyond (s ∷ l) c t h =
-    let p = both-true (ltb (s .code) 61) _ t in
-    let q = ltb-true (s .code) 61 (p .0) in
-    miss (eqb c (s .code)) (ne-eqb c (s .code) (λ e. omega arith)) ∙ beyond l c (p .1) h
-  where
-    miss : (b : Bool) → b ≡ false → _≡_ {A = Shape} (elim b [ true ↦ s | false ↦ lookup l c ]) (lookup l c)
-    miss b e = rw e
 
 -- ---- the codes that no arm names
 -- what a match knows past its arms of single numbers
@@ -212,7 +200,7 @@ module _ (u d l : ℕ → ℕ) (w : Fields) where
           (λ e. ⊎-elim (λ p. absurd (outside 49 (w .code) 51 g p))
           (λ p. ⊎-elim (λ q. absurd (true≢false (sym q ∙ not-among (w .code) t))) (nothing (w .code)) (one-true _ _ p)) (one-true _ _ e))
           (one-true _ _ (all-from quiet 0 61 quiet-below (w .code) (omega arith) k))
-      go (no k) = sym (ap (λ (s : Shape). masksBy u d l w (s .means)) (beyond codes (w .code) (unfold all codes in refl) (omega arith)))
+      go (no k) = sym (ap (λ (s : Shape). masksBy u d l w (s .means)) (shape-past (w .code) (omega arith)))
 
 -- the numbers of bits that a row holds
 module _ (c n : ℕ) (p : Small (shapeOf c .means) n) where

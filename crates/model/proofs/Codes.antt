@@ -1,12 +1,13 @@
 -- The table of codes read backwards: the code of a meaning; and the next row of a list. Assumes nothing.
 use mathlib.Core.{Path._≡_, Path.refl, Path.sym, Path.ap, Path._∙_, Logic._⊎_, Logic.inl, Logic.inr, Logic.⊎-elim}
 use mathlib.Core.{Bool.Bool, Bool.true, Bool.false, Bool.false≢true, List.List, List.[], List._∷_}
-use Prim.Native.Nat.{ℕ, _<_}
+use Prim.Native.Nat.{ℕ, _≤_, _<_}
+use native.Mathlib.Omega.{arith}
 use lib.{Dec.eqb, Dec.ltb, ListN.length}
-use borrow.Author.Tests.{eqb-true}
+use borrow.Author.Tests.{eqb-true, ltb-true, ne-eqb}
 use Rattle.model.specs.Lists.{all}
 use Rattle.model.specs.Image.{Tables, none, fieldsOf}
-use Rattle.model.specs.Rows.{Kind, expression, pattern, offer, gets, ofType, item, range, action, branch, arm, unknown, Not, Negate, And, Or, Plus, Minus, Times, Quotient, Remainder, Equal, Less, AtMost, logic, arithmetic, comparison, isVariable, isConstant, isUnary, isBinary, isAny, isBind, isValue, isWhere, isEmit, isReceive, isNull, isAssign, isChoose, isReset, isCommunicate, isTo, isThen, isSelect, isCase, isWhile, isFor, Means, anExpression, aPattern, anOffer, anAction, another, kindOf, Shape, codes, lookup, shapeOf, meansAt, numberOfKind, isKind, pickNext, nextOf}
+use Rattle.model.specs.Rows.{Kind, expression, pattern, offer, gets, ofType, item, range, action, branch, arm, unknown, Not, Negate, And, Or, Plus, Minus, Times, Quotient, Remainder, Equal, Less, AtMost, logic, arithmetic, comparison, isVariable, isConstant, isUnary, isBinary, isAny, isBind, isValue, isWhere, isEmit, isReceive, isNull, isAssign, isChoose, isReset, isCommunicate, isTo, isThen, isSelect, isCase, isWhile, isFor, Means, anExpression, aPattern, anOffer, anAction, another, kindOf, Shape, line, unused, codes, lookup, shapeOf, meansAt, numberOfKind, isKind, pickNext, nextOf}
 use Rattle.model.proofs.Rows.{both-true, fieldsFor, lined, kind-of, kind-in}
 
 abbrev pub codeOf : Means → ℕ
@@ -100,3 +101,19 @@ pub next-is : (x : Tables) (r : ℕ) (m : Means) → meansAt x r ≡ m
     → nextOf x r ≡ pickNext (fieldsFor m .b) (fieldsOf x r .b) (pickNext (fieldsFor m .c) (fieldsOf x r .c) none)
 unfolding nextOf
 next-is x r m e = let l = lined (fieldsOf x r .code) in rw (l .b, l .c, e)
+
+-- a code past the table is unknown
+lookup-past : (l : List Shape) (c : ℕ) → all (λ s. ltb (s .code) 61) l ≡ true → 61 ≤ c → lookup l c ≡ line c (another unknown) unused unused unused
+unfolding lookup all
+lookup-past [] c t h = refl
+lookup-past (s ∷ l) c t h =
+    let p = both-true (ltb (s .code) 61) _ t in
+    let q = ltb-true (s .code) 61 (p .0) in
+    miss (eqb c (s .code)) (ne-eqb c (s .code) (λ e. omega arith)) ∙ lookup-past l c (p .1) h
+  where
+    miss : (b : Bool) → b ≡ false → _≡_ {A = Shape} (elim b [ true ↦ s | false ↦ lookup l c ]) (lookup l c)
+    miss b e = rw e
+
+pub shape-past : (c : ℕ) → 61 ≤ c → shapeOf c ≡ line c (another unknown) unused unused unused
+unfolding shapeOf codes all
+shape-past c h = lookup-past codes c refl h

@@ -18,6 +18,14 @@ pub one-true : (a b : Bool) → (a || b) ≡ true → (a ≡ true) ⊎ (b ≡ tr
 one-true true b e = inl refl
 one-true false b e = inr e
 
+pub and-true : (b : Bool) → (b && true) ≡ b
+and-true true = refl
+and-true false = refl
+
+pub and-false : (b : Bool) → (b && false) ≡ false
+and-false true = refl
+and-false false = refl
+
 -- the fields of a meaning's lines
 pub record Three : Type 0 where
   pub a : Field

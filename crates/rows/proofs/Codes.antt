@@ -1,11 +1,11 @@
 -- What the numbers of a packed line say. Assumes nothing.
-use mathlib.Core.{Path._≡_, Path.refl, Path.sym, Path.ap, Path._∙_, Path.subst, Bool.Bool, Bool.true, Bool.false, Bool.and-eq-true-iff, List.List, List.[], List._∷_, List.map}
+use mathlib.Core.{Path._≡_, Path.refl, Path.sym, Path.ap, Path._∙_, Path.subst, Bool.Bool, Bool.true, Bool.false, List.List, List.[], List.map}
 use Prim.Native.Nat.{ℕ, _≤_, _<_}
 use native.Mathlib.{Nat.zero-add, Omega.arith}
-use lib.{Dec.eqb, Dec.ltb, ListN.getD, ListN.List·getD-map}
-use borrow.Author.Tests.{ltb-true, ne-eqb}
-use Rattle.model.specs.Lists.{table, all}
-use Rattle.model.specs.Rows.{Kind, expression, pattern, offer, gets, ofType, item, range, action, branch, arm, unknown, Field, plain, one, oneOrNone, list, listOrNone, next, unused, another, kindOf, Shape, line, codes, lookup, shapeOf, numberOfKind, pickNext}
+use lib.{ListN.getD, ListN.List·getD-map}
+use Rattle.model.specs.Lists.{table}
+use Rattle.model.specs.Rows.{Kind, expression, pattern, offer, gets, ofType, item, range, action, branch, arm, unknown, Field, plain, one, oneOrNone, list, listOrNone, next, kindOf, Shape, line, shapeOf, numberOfKind, pickNext}
+use Rattle.model.proofs.Codes.{shape-past}
 use Rattle.model.proofs.Bytes.{getD-table}
 use Rattle.rows.specs.declared.lines.Line.{Line}
 use Rattle.rows.specs.Lines.{digit, kindIn, Form, plains, formIn, formOf, Tells, unpacked, Table}
@@ -13,18 +13,6 @@ use Rattle.rows.specs.Lines.{digit, kindIn, Form, plains, formIn, formOf
 -- a case by an equal test
 pub either : {A : Type 0} (b c : Bool) (s t : A) → b ≡ c → _≡_ {A = A} (elim b [ true ↦ s | false ↦ t ]) (elim c [ true ↦ s | false ↦ t ])
 either b c s t e = rw e
-
--- a code past the table is unknown
-lookup-past : (l : List Shape) (c : ℕ) → all (λ s. ltb (s .code) 61) l ≡ true → 61 ≤ c → lookup l c ≡ line c (another unknown) unused unused unused
-unfolding lookup all
-lookup-past [] c t h = refl
-lookup-past (s ∷ l) c t h =
-    let p = and-eq-true-iff (ltb (s .code) 61) (all (λ s. ltb (s .code) 61) l) .0 t in
-    either (eqb c (s .code)) false s (lookup l c) (ne-eqb c (s .code) (λ e. omega (arith, ltb-true (s .code) 61 (p .0)))) ∙ lookup-past l c (p .1) h
-
-shape-past : (c : ℕ) → 61 ≤ c → shapeOf c ≡ line c (another unknown) unused unused unused
-unfolding shapeOf codes all
-shape-past c h = lookup-past codes c refl h
 
 pub line-past : (c : ℕ) → 61 ≤ c → Tells (record { kind = 10; form = 0; a = 15; b = 15; c = 15 }) (shapeOf c)
 unfolding formIn plains

@@ -6,6 +6,7 @@ use lib.{Dec.eqb, Bits.bitAnd, Bits.bitOr, Pow.pow-pos}
 use borrow.Author.Tests.{eqb-true, eqb-false, eq-eqb, ne-eqb, le-leb, lt-leb}
 use Rattle.model.specs.Masks.{digit, has, bit, full, meet, join, inside}
 use Rattle.model.proofs.Masks.{digit-le, digit-zero, digit-bit-here, digit-bit-there, digit-join, bit-shift}
+use Rattle.model.proofs.Rows.{and-false}
 use Rattle.speech.specs.Case.{ValueBit, allIn}
 
 pub has-zero : (k : ℕ) → has 0 k ≡ false
@@ -37,10 +38,6 @@ value-in code value e h = record { each = λ k l. rw (e, bit-shift value h) (has
 
 pub value-out : (code value : ℕ) → 64 ≤ value → ValueBit code value 0
 value-out code value h = record { each = λ k l. has-zero k ∙ sym (ap (λ b. eqb code 34 && b) (ne-eqb k value (λ e. omega arith)) ∙ and-false (eqb code 34)) }
-  where
-    and-false : (b : Bool) → (b && false) ≡ false
-    and-false true = refl
-    and-false false = refl
 
 pub no-value : (code value : ℕ) → (code ≡ 34 → ⊥) → ValueBit code value 0
 no-value code value f = record { each = λ k l. rw (ne-eqb code 34 f) (has-zero k) }

@@ -1,6 +1,6 @@
 -- The rule of a row with the trailer's, and the lowest row whose rule fails. Assumes nothing.
 use mathlib.Core.{Path._≡_, Path.refl, Path.sym, Path._∙_}
-use mathlib.Core.{Bool.Bool, Bool.true, Bool.false, Bool.not, Bool._&&_, Bool._||_, List.List}
+use mathlib.Core.{Bool.true, Bool.false, Bool.not, Bool._&&_, Bool._||_, List.List}
 use Prim.Native.Nat.{ℕ, _+_, _<_, _≤_}
 use native.Mathlib.Omega.{arith}
 use lib.{Dec.eqb, Dec.ltb, ListN.length}
@@ -10,7 +10,7 @@ use Rattle.model.specs.Answers.{row, lowest}
 use Rattle.model.specs.Image.{Tables, bool, tablesOf}
 use Rattle.model.specs.Rows.{expression, isKind, isRoot}
 use Rattle.model.specs.Typing.{typed}
-use Rattle.model.proofs.Rows.{both-true}
+use Rattle.model.proofs.Rows.{both-true, and-true, and-false}
 use Rattle.model.proofs.Order.{lowest-pass, each-full, each-refuses}
 use Rattle.image.proofs.Laid.{condition-is}
 use Rattle.typing.specs.Rules.{typingVerdict, rowTyped, expressionType, OfKind, RootedRow}
@@ -23,14 +23,6 @@ root-kind x r e = both-true (ltb r (length (x .rows))) (isKind x expression r) e
 typed-by : (x : Tables) (r : ℕ) → typed x r ≡ (rowTyped x r && (not (eqb r (x .condition)) || eqb (expressionType x r) bool))
 unfolding typed rowTyped
 typed-by x r = refl
-
-and-false : (b : Bool) → (b && false) ≡ false
-and-false true = refl
-and-false false = refl
-
-and-true : (b : Bool) → (b && true) ≡ b
-and-true true = refl
-and-true false = refl
 
 module _ {s : List ℕ} {i : Image} {r : ℕ} (f : RootedRow s i r) where
   is-condition : r ≡ i .condition → r ≡ tablesOf s .condition
