@@ -10,6 +10,7 @@ ghost use Rattle.notation.specs.Texts.{lineFrom, filled, rowText};
 ghost use Rattle.notation.specs.Whole.{explained};
 ghost use Rattle.listing.specs.Gave.{Gave};
 use image::fields;
+use image::row_count;
 use image::trailer;
 use marks::aim;
 use marks::line;
@@ -17,7 +18,6 @@ use marks::notation_byte;
 use marks::put_lead;
 use marks::put_plain;
 use marks::row_line;
-use masks::row_count;
 use model::Fields;
 use model::Image;
 use model::Verdict;
@@ -60,7 +60,7 @@ pub fn row_fields(image: &[u8], i: Image, r: u16) -> Fields
     ensures { λ w. ⌜ w ≡ fieldsOf (tablesOf (now (image .entry))) r ⌝ }
 {
     let n = row_count(image, i);
-    if (r as usize) < n {
+    if r < n {
         return fields(image, i, r);
     }
     Fields {

@@ -11,13 +11,13 @@ row-count-requires : tie.Need-row-count-requires
 row-count-requires c κs = search needs
 
 fields-requires : tie.Need-fields-requires
-fields-requires c κs = record { located = c .before .before .before .pre; inside = search needs }
+fields-requires c κs = record { located = c .before .before .before .pre; inside = omega (arith, c .if1 .taken, c .before .row-count .ensures, rows-count (c .before .before .before .pre)) }
 
 returns : tie.Need-returns
 returns c = search needs
 
 returns-2 : tie.Need-returns-2
-returns-2 c = sym (List·getD-eq-default (tablesOf (c .before .before .before .args .image .now) .rows) _ {n = c .before .before .before .args .r} (omega (arith, rows-count (c .before .before .before .pre))))
+returns-2 c = sym (List·getD-eq-default (tablesOf (c .before .before .before .args .image .now) .rows) _ {n = c .before .before .before .args .r} (omega (arith, c .if1 .left, c .before .row-count .ensures)))
 
 pub row-fields-spec : {M : Type 1} → statement M
 row-fields-spec = tie.close (tie.spec row-count-requires fields-requires returns returns-2)
