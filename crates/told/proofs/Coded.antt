@@ -6,7 +6,7 @@ use lib.Dec.{eqb, ltb}
 use borrow.Author.Tests.{eqb-true, ne-eqb, lt-ltb, le-ltb}
 use Rattle.model.specs.declared.{State.State, Row.Row, Refusal.Refusal, Refusal.the-variants.ImageLength, Refusal.the-variants.MarkOrLength, Refusal.the-variants.Starts, Refusal.the-variants.Entries, Refusal.the-variants.Malformed, Refusal.the-variants.NoAction, Refusal.the-variants.NoCondition, Refusal.the-variants.NotNamedOnce, Refusal.the-variants.Typing, Refusal.the-variants.Binding, Refusal.the-variants.SetsShort, Refusal.the-variants.Initialisation, Refusal.the-variants.Speech, Refusal.the-variants.StoreLength, Refusal.the-variants.ParameterCount, Refusal.the-variants.ParameterValue, Refusal.the-variants.ConditionFalse, Refusal.the-variants.NoState, Refusal.the-variants.SlotValue, Refusal.the-variants.LabelShort, Refusal.the-variants.BudgetOver, Refusal.the-variants.Blocked, Refusal.the-variants.Undefined, Refusal.the-variants.ScriptEnded, Refusal.the-variants.WordOutOfRange, Refusal.the-variants.BudgetSpent, Refusal.the-variants.BlockedSpoken, Refusal.the-variants.SecondCommunication, Outcome.Outcome, Outcome.the-variants.Ends, Outcome.the-variants.Jumps, Outcome.the-variants.Stops}
 use Rattle.model.specs.Answers.{state, row, number, place}
-use Rattle.told.specs.Told.{refusalOf, outcomeOf}
+use Rattle.told.specs.Told.{refusalOf, outcomeOf, toldOf, Tells}
 
 -- ---- refusals
 pub as-21 : (n : ℕ) (r : Row) → n ≡ 21 → Blocked r ≡ refusalOf n r
@@ -130,13 +130,29 @@ pub stops-at : (n : ℕ) {y : Refusal} → 131072 ≤ n → y ≡ refusalOf (n /
 unfolding outcomeOf
 stops-at n {y} l e = rw (ne-eqb n 0 (λ z. omega arith), le-ltb n 131072 l) (ap Stops e)
 
-pub jump-told : (q : State) → q .0 < 65536 → outcomeOf (1 + q .0) ≡ Jumps q
+jump-told : (q : State) → q .0 < 65536 → outcomeOf (1 + q .0) ≡ Jumps q
 jump-told q h =
     let m : (1 + q .0 - 1) % 65536 ≡ q .0 = omega arith in
     sym (jumps-at (1 + q .0) (λ z. omega arith) (omega arith)) ∙ ap (λ (k : ℕ). Jumps (state k)) m
 
-pub stop-told : (y : Refusal) {n p : ℕ} → 21 ≤ number y → n ≡ number y → p ≡ place y → p < 65536 → outcomeOf (n * 131072 + p) ≡ Stops y
+stop-told : (y : Refusal) {n p : ℕ} → 21 ≤ number y → n ≡ number y → p ≡ place y → p < 65536 → outcomeOf (n * 131072 + p) ≡ Stops y
 stop-told y {n} {p} h e f s =
     let k : (n * 131072 + p) / 131072 ≡ n = omega arith in
     let m : (n * 131072 + p) % 65536 ≡ p = omega arith in
     sym (stops-at (n * 131072 + p) (omega arith) (sym (rw (k, m, e, f) (refusal-is y h))))
+
+-- ---- their numbers
+pub tells-as : {n : ℕ} {o u : Outcome} → Tells n o → o ≡ u → Tells n u
+tells-as {n} t e = rw e at t
+
+pub tells-ends : Tells 0 Ends
+unfolding toldOf
+tells-ends = record { told = refl; outcome = out-ends }
+
+pub tells-jump : (q : State) → q .0 < 65536 → Tells (1 + q .0) (Jumps q)
+unfolding toldOf
+tells-jump q h = record { told = refl; outcome = jump-told q h }
+
+pub tells-stop : (y : Refusal) {n p : ℕ} → 21 ≤ number y → n ≡ number y → p ≡ place y → p < 65536 → Tells (n * 131072 + p) (Stops y)
+unfolding toldOf
+tells-stop y {n} {p} h e f s = record { told = rw (e, f) refl; outcome = stop-told y h e f s }

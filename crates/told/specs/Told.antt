@@ -1,9 +1,10 @@
 -- What the run of an action hands on: its state in a slice, and how it ended as a number. Assumes nothing.
 use mathlib.Core.{Path._≡_, Bool.cond, List.List}
-use Prim.Native.Nat.{ℕ, _-_, _/_, _%_, _≤_}
-use lib.{Dec.eqb, Dec.ltb, ListN.getD}
+use Prim.Native.Nat.{ℕ, _+_, _-_, _*_, _/_, _%_, _≤_}
+use mir.Val.{boolByte}
+use lib.{Dec.eqb, Dec.ltb, ListN.getD, ListN.set}
 use Rattle.model.specs.declared.{Row.Row, Refusal.Refusal, Refusal.the-variants.Blocked, Refusal.the-variants.Undefined, Refusal.the-variants.ScriptEnded, Refusal.the-variants.WordOutOfRange, Refusal.the-variants.BudgetSpent, Refusal.the-variants.BlockedSpoken, Refusal.the-variants.SecondCommunication, Outcome.Outcome, Outcome.the-variants.Ends, Outcome.the-variants.Jumps, Outcome.the-variants.Stops}
-use Rattle.model.specs.Answers.{state, row, number}
+use Rattle.model.specs.Answers.{state, row, number, place}
 use Rattle.actions.specs.declared.{Run.Run, Ran.Ran}
 
 -- words read, units left, whether something was said, its gate, the number of its values
@@ -16,6 +17,16 @@ runOf l =
       gate = getD l 3 0 % 65536;
       count = getD l 4 0 % 65536;
     }
+
+-- and the slice with a run's state put into it
+abbrev pub slotsOf : Run → List ℕ → List ℕ
+slotsOf q l =
+    set (set (set (set (set l 0 (q .words)) 1 (q .left)) 2 (boolByte (q .spoken))) 3 (q .gate)) 4 (q .count)
+
+-- so that it can be taken out again
+pub record Puts (q : Run) (l k : List ℕ) : Type 0 where
+  pub slots : k ≡ slotsOf q l
+  pub run : runOf k ≡ q
 
 -- 21 to 27, at a row
 unfoldable pub refusalOf : ℕ → Row → Refusal
@@ -31,6 +42,17 @@ unfoldable pub outcomeOf : ℕ → Outcome
 outcomeOf n =
     cond (eqb n 0) Ends
     (cond (ltb n 131072) (Jumps (state ((n - 1) % 65536))) (Stops (refusalOf (n / 131072) (row (n % 65536)))))
+
+-- and its number
+unfoldable pub toldOf : Outcome → ℕ
+toldOf Ends = 0
+toldOf (Jumps q) = 1 + q .0
+toldOf (Stops y) = number y * 131072 + place y
+
+-- so that it can be read back
+pub record Tells (n : ℕ) (o : Outcome) : Type 0 where
+  pub told : n ≡ toldOf o
+  pub outcome : outcomeOf n ≡ o
 
 abbrev pub ranOf : ℕ → List ℕ → Ran
 ranOf n l = record { out = outcomeOf n; run = runOf l }

@@ -5,7 +5,7 @@ ghost use Prim.Native.Nat.{_+_, _-_, _≤_, _<_, _^_};
 ghost use lib.ListN.{length, getD, set};
 ghost use Rattle.model.specs.declared.{Outcome.the-variants.Stops};
 ghost use Rattle.model.specs.Answers.{number};
-ghost use Rattle.told.specs.Told.{runOf, refusalOf, outcomeOf, OfRun};
+ghost use Rattle.told.specs.Told.{runOf, refusalOf, outcomeOf, OfRun, Tells, Puts};
 use actions::Run;
 use model::Outcome;
 use model::Refusal;
@@ -32,7 +32,7 @@ const STOPS: u32 = 131072;
 // A refusal of the run as a number.
 pub fn stopped(y: Refusal) -> u32
     requires { ⌜ 21 ≤ number y ⌝ }
-    ensures { λ n. ⌜ outcomeOf n ≡ Stops y ⌝ }
+    ensures { λ n. ⌜ Tells n (Stops y) ⌝ }
 {
     y.number() as u32 * STOPS + y.place() as u32
 }
@@ -40,7 +40,7 @@ pub fn stopped(y: Refusal) -> u32
 // An outcome as a number.
 pub fn told(out: Outcome) -> u32
     requires { ⌜ OfRun out ⌝ }
-    ensures { λ n. ⌜ outcomeOf n ≡ out ⌝ }
+    ensures { λ n. ⌜ Tells n out ⌝ }
 {
     match out {
         Outcome::Ends => ENDS,
@@ -93,7 +93,7 @@ pub fn taken(run: &[usize]) -> Run
 // And put back.
 pub fn put(q: Run, run: &mut [usize])
     requires { ⌜ 5 ≤ length (now run) ⌝ }
-    ensures { λ _. ⌜ runOf (now (run .exit)) ≡ q ⌝ }
+    ensures { λ _. ⌜ Puts q (now (run .entry)) (now (run .exit)) ⌝ }
 {
     run[WORDS] = q.words;
     run[LEFT] = q.left;

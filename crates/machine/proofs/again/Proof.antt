@@ -22,7 +22,7 @@ same-length c = search needs
 returns-2 : tie.Need-returns-2
 returns-2 c =
     let o = c .before .before .before .before .before .before in
-    again-spent _ (sym (ends-at (o .args .p) (c .before .before .before .before .if1 .left))) (sym (c .before .before .left .ensures) ∙ c .before .if2 .taken) (ap (λ (u : Outcome). ran u (runOf (o .args .run .now))) (c .stopped .ensures))
+    again-spent _ (sym (ends-at (o .args .p) (c .before .before .before .before .if1 .left))) (sym (c .before .before .left .ensures) ∙ c .before .if2 .taken) (ap (λ (u : Outcome). ran u (runOf (o .args .run .now))) (c .stopped .ensures .outcome))
 
 charge-requires : tie.Need-charge-requires
 charge-requires c κs = search needs

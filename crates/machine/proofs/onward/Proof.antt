@@ -44,7 +44,7 @@ same-length-2 : tie.Need-same-length-2
 same-length-2 c = search needs
 
 returns-3 : tie.Need-returns-3
-returns-3 c = onward-unknown _ _ (sym (ends-at (c .before .before .before .before .before .before .args .p) (c .before .before .before .before .before .if1 .left))) (c .before .before .before .value .ensures) (c .before .enum-told .given .1) (c .stopped .ensures)
+returns-3 c = onward-unknown _ _ (sym (ends-at (c .before .before .before .before .before .before .args .p) (c .before .before .before .before .before .if1 .left))) (c .before .before .before .value .ensures) (c .before .enum-told .given .1) (c .stopped .ensures .outcome)
 
 pub onward-spec : {M : Type 1} → statement M
 onward-spec =

@@ -33,7 +33,7 @@ same-length-3 c = search needs
 returns : tie.Need-returns
 returns c =
     let o = c .before .before .before .before .before .before .before .before .before .before .before .before .before .before .before .before in
-    leaf-told (o .args .image .now) (o .args .r) (o .args .script .now) (o .args .store .now) (c .before .before .before .before .before .before .before .run-simple .last .1 .1 .1 .0) (o .args .values .now) (c .before .before .before .before .before .before .before .run-simple .last .1 .1 .1 .1 .1 .0) (c .told .ensures) (c .before .before .before .put .ensures) (c .before .before .before .before .before .before .before .before .before .before .taken .ensures) (c .before .before .before .before .before .before .before .run-simple .ensures)
+    leaf-told (o .args .image .now) (o .args .r) (o .args .script .now) (o .args .store .now) (c .before .before .before .before .before .before .before .run-simple .last .1 .1 .1 .0) (o .args .values .now) (c .before .before .before .before .before .before .before .run-simple .last .1 .1 .1 .1 .1 .0) (c .told .ensures .outcome) (c .before .before .before .put .ensures .run) (c .before .before .before .before .before .before .before .before .before .before .taken .ensures) (c .before .before .before .before .before .before .before .run-simple .ensures)
 
 pub run-leaf-spec : {M : Type 1} → statement M
 run-leaf-spec =

@@ -35,7 +35,7 @@ same-length-2 c = search needs
 
 returns : tie.Need-returns
 returns c =
-    tried (c .before .before .before .before .before .before .before .before .before .before .before .before .before .before .before .before .pre) _ _ _ (c .before .before .before .before .before .before .before .before .before .before .state-row .ensures) (c .before .before .outcome .ensures) (c .taken .ensures) (c .before .before .before .before .before .before .before .before .before .before .before .before .put .ensures) (c .before .before .before .before .before .before .run-action .ensures)
+    tried (c .before .before .before .before .before .before .before .before .before .before .before .before .before .before .before .before .pre) _ _ _ (c .before .before .before .before .before .before .before .before .before .before .state-row .ensures) (c .before .before .outcome .ensures) (c .taken .ensures) (c .before .before .before .before .before .before .before .before .before .before .before .before .put .ensures .run) (c .before .before .before .before .before .before .run-action .ensures)
 
 pub try-step-spec : {M : Type 1} → statement M
 try-step-spec =

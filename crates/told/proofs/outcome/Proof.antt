@@ -1,6 +1,5 @@
 use borrow.Author.Needs.{needs}
 use Rattle.told.proofs.Coded.{ends-at, jumps-at, stops-at}
-use mathlib.Core.Path.{_∙_}
 use Rattle.told.proofs.outcome.Statement.{statement}
 use Rattle.told.proofs.outcome.Tie as tie
 

@@ -1,6 +1,6 @@
 use borrow.Author.Needs.{needs}
 use Rattle.told.proofs.Kept.{set-1, set-2, set-3, set-all}
-use mathlib.Core.Path.{_∙_}
+use mathlib.Core.Path.{refl}
 use Rattle.told.proofs.put.Statement.{statement}
 use Rattle.told.proofs.put.Tie as tie
 
@@ -34,7 +34,7 @@ same-length c = search needs
 returns : tie.Need-returns
 returns c =
     let o = c .before .before .before in
-    set-all (o .args .run .now) (o .args .q) (o .pre) (search needs) (search needs)
+    record { slots = refl; run = set-all (o .args .run .now) (o .args .q) (o .pre) (search needs) (search needs) }
 
 pub put-spec : {M : Type 1} → statement M
 put-spec =

@@ -1,7 +1,6 @@
 use borrow.Author.Needs.{needs}
 use native.Mathlib.Omega.{arith}
-use Rattle.told.proofs.Coded.{number-most, stop-told}
-use mathlib.Core.Path.{_∙_}
+use Rattle.told.proofs.Coded.{number-most, tells-stop}
 use Rattle.told.proofs.stopped.Statement.{statement}
 use Rattle.told.proofs.stopped.Tie as tie
 
@@ -24,7 +23,7 @@ add-result : tie.Need-add-result
 add-result c = record { fits = omega (arith, c .before .number .ensures, number-most (c .before .before .args .y), c .place .ok) }
 
 returns : tie.Need-returns
-returns c = stop-told (c .before .before .args .y) (c .before .before .pre) (c .before .number .ensures) (c .place .ensures) (search needs)
+returns c = tells-stop (c .before .before .args .y) (c .before .before .pre) (c .before .number .ensures) (c .place .ensures) (search needs)
 
 pub stopped-spec : {M : Type 1} → statement M
 stopped-spec =

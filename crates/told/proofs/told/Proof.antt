@@ -1,6 +1,6 @@
 use borrow.Author.Needs.{needs}
-use Rattle.told.proofs.Coded.{out-ends, jump-told}
-use mathlib.Core.Path.{sym, _∙_}
+use Rattle.told.proofs.Coded.{tells-as, tells-ends, tells-jump}
+use mathlib.Core.Path.{sym}
 use Rattle.told.proofs.told.Statement.{statement}
 use Rattle.told.proofs.told.Tie as tie
 
@@ -23,13 +23,13 @@ stopped-requires : tie.Need-stopped-requires
 stopped-requires c κs = c .before .before .before .pre .late _ (c .before .out2 .given .1)
 
 returns : tie.Need-returns
-returns c = out-ends ∙ sym (c .enum-told .given .1)
+returns c = tells-as tells-ends (sym (c .enum-told .given .1))
 
 returns-2 : tie.Need-returns-2
-returns-2 c = jump-told _ (search needs) ∙ sym (c .before .before .out .given .1)
+returns-2 c = tells-as (tells-jump _ (search needs)) (sym (c .before .before .out .given .1))
 
 returns-3 : tie.Need-returns-3
-returns-3 c = c .stopped .ensures ∙ sym (c .before .before .out2 .given .1)
+returns-3 c = tells-as (c .stopped .ensures) (sym (c .before .before .out2 .given .1))
 
 pub told-spec : {M : Type 1} → statement M
 told-spec =

@@ -28,7 +28,7 @@ run-action-same-length t c =
 
 pub run-action-returns : (t : ℕ) → run-action-lts.Need-returns (run-action-calls t) (run-action-at t) run-action.Post
 run-action-returns t c =
-    spent-way (c .before .before .before .before .before .before .before .pre .1 .0) _ (runOf (c .before .before .before .before .before .before .before .args .run .now)) (sym (c .before .before .left .ensures) ∙ c .before .if1 .taken) (told-as (runOf (c .before .before .before .before .before .before .before .args .run .now)) (c .stopped .ensures))
+    spent-way (c .before .before .before .before .before .before .before .pre .1 .0) _ (runOf (c .before .before .before .before .before .before .before .args .run .now)) (sym (c .before .before .left .ensures) ∙ c .before .if1 .taken) (told-as (runOf (c .before .before .before .before .before .before .before .args .run .now)) (c .stopped .ensures .outcome))
 
 pub run-action-charge-requires : (t : ℕ) → run-action-lts.Need-charge-requires (run-action-calls t) (run-action-at t) run-action.Post
 run-action-charge-requires t c κs =

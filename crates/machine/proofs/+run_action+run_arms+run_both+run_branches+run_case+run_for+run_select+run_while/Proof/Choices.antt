@@ -53,7 +53,7 @@ run-select-same-length-2 t c =
 
 pub run-select-returns-2 : (t : ℕ) → run-select-lts.Need-returns-2 (run-select-calls t) (run-select-at t) run-select.Post
 run-select-returns-2 t c =
-    select-ended (c .before .before .before .before .before .before .before .before .pre .1 .0) _ _ (runOf (c .before .before .before .before .before .before .before .before .args .run .now)) (c .before .before .before .before .if1 .left) (omega (arith, c .before .if2 .taken, c .before .before .words .ensures)) (told-as (runOf (c .before .before .before .before .before .before .before .before .args .run .now)) (c .stopped .ensures))
+    select-ended (c .before .before .before .before .before .before .before .before .pre .1 .0) _ _ (runOf (c .before .before .before .before .before .before .before .before .args .run .now)) (c .before .before .before .before .if1 .left) (omega (arith, c .before .if2 .taken, c .before .before .words .ensures)) (told-as (runOf (c .before .before .before .before .before .before .before .before .args .run .now)) (c .stopped .ensures .outcome))
 
 pub run-select-word-requires : (t : ℕ) → run-select-lts.Need-word-requires (run-select-calls t) (run-select-at t) run-select.Post
 run-select-word-requires t c κs =
@@ -73,7 +73,7 @@ run-select-same-length-3 t c =
 
 pub run-select-returns-3 : (t : ℕ) → run-select-lts.Need-returns-3 (run-select-calls t) (run-select-at t) run-select.Post
 run-select-returns-3 t c =
-    select-negative (c .before .before .before .before .before .before .before .before .before .before .before .before .before .before .pre .1 .0) _ _ (runOf (c .before .before .before .before .before .before .before .before .before .before .before .before .before .before .args .run .now)) (c .before .before .before .before .before .before .before .before .before .before .if1 .left) (omega (arith, c .before .before .before .before .before .before .before .if2 .left, c .before .before .before .before .before .before .before .before .words .ensures)) (held-is (c .before .before .before .before .before .before .word .result) (c .before .before .before .before .before .before .word .ok) ∙ c .before .before .before .before .before .before .word .ensures ∙ ap (wordAt (c .before .before .before .before .before .before .before .before .before .before .before .before .before .before .args .script .now)) (c .before .before .before .before .before .before .before .before .words .ensures)) (heard (c .before .before .before .before .before .before .before .before .before .before .before .before .before .before .args .run .now) (c .before .before .before .before .hear .last .0) (c .before .before .before .before .before .before .before .before .before .before .before .before .before .before .pre .1 .1) (c .before .before .before .before .hear .ensures)) (c .before .if3 .taken) (told-as (runOf (c .before .before .before .before .hear .last .0)) (c .stopped2 .ensures))
+    select-negative (c .before .before .before .before .before .before .before .before .before .before .before .before .before .before .pre .1 .0) _ _ (runOf (c .before .before .before .before .before .before .before .before .before .before .before .before .before .before .args .run .now)) (c .before .before .before .before .before .before .before .before .before .before .if1 .left) (omega (arith, c .before .before .before .before .before .before .before .if2 .left, c .before .before .before .before .before .before .before .before .words .ensures)) (held-is (c .before .before .before .before .before .before .word .result) (c .before .before .before .before .before .before .word .ok) ∙ c .before .before .before .before .before .before .word .ensures ∙ ap (wordAt (c .before .before .before .before .before .before .before .before .before .before .before .before .before .before .args .script .now)) (c .before .before .before .before .before .before .before .before .words .ensures)) (heard (c .before .before .before .before .before .before .before .before .before .before .before .before .before .before .args .run .now) (c .before .before .before .before .hear .last .0) (c .before .before .before .before .before .before .before .before .before .before .before .before .before .before .pre .1 .1) (c .before .before .before .before .hear .ensures)) (c .before .if3 .taken) (told-as (runOf (c .before .before .before .before .hear .last .0)) (c .stopped2 .ensures .outcome))
 
 pub run-select-size-requires : (t : ℕ) → run-select-lts.Need-size-requires (run-select-calls t) (run-select-at t) run-select.Post
 run-select-size-requires t c κs =
@@ -130,7 +130,7 @@ run-branches-same-length-3 t c =
 
 pub run-branches-returns : (t : ℕ) → run-branches-lts.Need-returns (run-branches-calls t) (run-branches-at t) run-branches.Post run-branches-Inv-loop run-branches-μ-loop
 run-branches-returns t c =
-    branch-over (c .before .before .loop .inv .3) _ _ _ _ (c .before .if1 .taken) (run-same (told-as _ (c .stopped .ensures)) (c .before .before .loop .inv .0) (c .before .before .loop .inv .1) (c .before .before .loop .inv .2)) ∙ c .before .before .loop .inv .4
+    branch-over (c .before .before .loop .inv .3) _ _ _ _ (c .before .if1 .taken) (run-same (told-as _ (c .stopped .ensures .outcome)) (c .before .before .loop .inv .0) (c .before .before .loop .inv .1) (c .before .before .loop .inv .2)) ∙ c .before .before .loop .inv .4
 
 pub run-branches-row-requires : (t : ℕ) → run-branches-lts.Need-row-requires (run-branches-calls t) (run-branches-at t) run-branches.Post run-branches-Inv-loop run-branches-μ-loop
 run-branches-row-requires t c κs =
@@ -210,7 +210,7 @@ run-case-same-length-4 t c =
 
 pub run-case-returns-2 : (t : ℕ) → run-case-lts.Need-returns-2 (run-case-calls t) (run-case-at t) run-case.Post
 run-case-returns-2 t c =
-    case-unknown (c .before .before .before .before .before .before .before .before .pre .1 .0) _ _ (runOf (c .before .before .before .before .before .before .before .before .args .run .now)) (c .before .before .before .eval .ensures) (c .before .enum-told .given .1) (told-as (runOf (c .before .before .before .before .before .before .before .before .args .run .now)) (c .stopped .ensures))
+    case-unknown (c .before .before .before .before .before .before .before .before .pre .1 .0) _ _ (runOf (c .before .before .before .before .before .before .before .before .args .run .now)) (c .before .before .before .eval .ensures) (c .before .enum-told .given .1) (told-as (runOf (c .before .before .before .before .before .before .before .before .args .run .now)) (c .stopped .ensures .outcome))
 
 pub run-arms-find-arm-requires : (t : ℕ) → run-arms-lts.Need-find-arm-requires (run-arms-calls t) (run-arms-at t) run-arms.Post
 run-arms-find-arm-requires t c κs =
@@ -274,4 +274,4 @@ run-arms-same-length-6 t c =
 
 pub run-arms-returns-3 : (t : ℕ) → run-arms-lts.Need-returns-3 (run-arms-calls t) (run-arms-at t) run-arms.Post
 run-arms-returns-3 t c =
-    arm-unsure (c .before .before .before .before .before .before .before .before .before .pre .1 .0) (c .before .before .before .before .find-arm .ensures) _ _ (runOf (c .before .before .before .before .before .before .before .before .before .args .run .now)) (c .before .enum-told2 .given .1) (told-as (runOf (c .before .before .before .before .before .before .before .before .before .args .run .now)) (c .stopped .ensures))
+    arm-unsure (c .before .before .before .before .before .before .before .before .before .pre .1 .0) (c .before .before .before .before .find-arm .ensures) _ _ (runOf (c .before .before .before .before .before .before .before .before .before .args .run .now)) (c .before .enum-told2 .given .1) (told-as (runOf (c .before .before .before .before .before .before .before .before .before .args .run .now)) (c .stopped .ensures .outcome))

@@ -73,7 +73,7 @@ run-while-same-length-6 t c =
 
 pub run-while-returns-2 : (t : ℕ) → run-while-lts.Need-returns-2 (run-while-calls t) (run-while-at t) run-while.Post run-while-Inv-loop run-while-μ-loop
 run-while-returns-2 t c =
-    while-unsure (c .before .before .before .before .before .loop .inv .0) (c .before .before .before .test .ensures) (c .before .enum-told2 .given .1) (told-as (runOf (c .before .before .before .before .before .loop .run)) (c .stopped .ensures))
+    while-unsure (c .before .before .before .before .before .loop .inv .0) (c .before .before .before .test .ensures) (c .before .enum-told2 .given .1) (told-as (runOf (c .before .before .before .before .before .loop .run)) (c .stopped .ensures .outcome))
 
 pub run-while-enum-told-3 : (t : ℕ) → run-while-lts.Need-enum-told-3 (run-while-calls t) (run-while-at t) run-while.Post run-while-Inv-loop run-while-μ-loop
 run-while-enum-told-3 t c =
@@ -193,7 +193,7 @@ run-for-same-length-6 t c =
 
 pub run-for-returns-2 : (t : ℕ) → run-for-lts.Need-returns-2 (run-for-calls t) (run-for-at t) run-for.Post run-for-Inv-loop run-for-μ-loop
 run-for-returns-2 t c =
-    for-is (c .before .before .before .before .before .before .before .before .before .before .before .before .pre .1 .0) _ (runOf (c .before .before .before .before .before .before .before .before .before .before .before .before .args .run .now)) (c .before .before .before .before .before .before .before .before .row .ensures) (held-is (c .before .before .before .before .before .before .signed2 .result) (c .before .before .before .before .before .before .signed2 .ok) ∙ c .before .before .before .before .before .before .signed2 .ensures) (for-unsure (c .before .before .before .before .before .loop .inv .0) (c .before .before .before .before .before .before .before .before .row .ensures) (held-is (c .before .before .before .before .before .before .before .signed .result) (c .before .before .before .before .before .before .before .signed .ok) ∙ c .before .before .before .before .before .before .before .signed .ensures) (c .before .before .before .at-most .ensures) (c .before .enum-told2 .given .1) (told-as (runOf (c .before .before .before .before .before .loop .run)) (c .stopped .ensures)))
+    for-is (c .before .before .before .before .before .before .before .before .before .before .before .before .pre .1 .0) _ (runOf (c .before .before .before .before .before .before .before .before .before .before .before .before .args .run .now)) (c .before .before .before .before .before .before .before .before .row .ensures) (held-is (c .before .before .before .before .before .before .signed2 .result) (c .before .before .before .before .before .before .signed2 .ok) ∙ c .before .before .before .before .before .before .signed2 .ensures) (for-unsure (c .before .before .before .before .before .loop .inv .0) (c .before .before .before .before .before .before .before .before .row .ensures) (held-is (c .before .before .before .before .before .before .before .signed .result) (c .before .before .before .before .before .before .before .signed .ok) ∙ c .before .before .before .before .before .before .before .signed .ensures) (c .before .before .before .at-most .ensures) (c .before .enum-told2 .given .1) (told-as (runOf (c .before .before .before .before .before .loop .run)) (c .stopped .ensures .outcome)))
 
 pub run-for-enum-told-3 : (t : ℕ) → run-for-lts.Need-enum-told-3 (run-for-calls t) (run-for-at t) run-for.Post run-for-Inv-loop run-for-μ-loop
 run-for-enum-told-3 t c =
