@@ -7,7 +7,7 @@ ghost use lib.ListN.{length};
 ghost use Rattle.model.specs.Image.{tablesOf};
 ghost use Rattle.model.specs.Rows.{expression, gets, item};
 ghost use Rattle.model.specs.Decode.{getsAt, variablesAt, ofTypesAt, conditionAt};
-ghost use Rattle.model.specs.Run.{assigning, choosing, resetting};
+ghost use Rattle.model.specs.Run.{choosing, resetting};
 ghost use Rattle.actions.specs.Doing.{Doing, trying};
 ghost use Rattle.actions.specs.Items.{Items, assigns};
 ghost use Rattle.actions.specs.State.{runAt, Silent};
@@ -171,23 +171,6 @@ pub fn draw(
     Ran {
         out: Outcome::Ends,
         run: at_word(run, words),
-    }
-}
-
-// 49, R11.
-pub fn run_assign(image: &[u8], i: Image, r: u16, w: Fields, store: &mut [i32], run: Run) -> Ran
-    requires { ⌜ Doing 49 (now image) i r w (now store) ⌝ }
-    ensures { λ q. ⌜ Silent q run (now (store .entry)) (now (store .exit)) (assigning (tablesOf (now (image .entry))) (getsAt (tablesOf (now (image .entry))) (w .a)) r) ⌝ }
-{
-    if assign(image, i.rows, w.a, store) {
-        return Ran {
-            out: Outcome::Ends,
-            run: run,
-        };
-    }
-    Ran {
-        out: Outcome::Stops(Refusal::Undefined(Row(r))),
-        run: run,
     }
 }
 

@@ -2,13 +2,13 @@
 use mathlib.Core.{Path._≡_, Path.sym, Path.ap, Path._∙_, Path.subst, Bool.Bool, Bool.true, Bool.false, Bool.cond, List.List}
 use Prim.Native.Nat.{ℕ, _+_, _-_, _^_, _≤_, _<_}
 use native.Mathlib.Omega.{arith}
-use lib.{IntN.ℤ, IntN.pos, ListN.length, ListN.getD, ListN.set, Signed.mag, Signed.leZ}
-use Rattle.model.specs.declared.{Refusal.Refusal, Refusal.the-variants.Blocked, Refusal.the-variants.BlockedSpoken, Refusal.the-variants.Undefined, Refusal.the-variants.BudgetSpent, Value.Value, Value.the-variants.Is, Value.the-variants.Unknown, Tested.the-variants.Holds, Tested.the-variants.Fails, Tested.the-variants.Unsure, Outcome.Outcome, Outcome.the-variants.Ends, Outcome.the-variants.Stops}
+use lib.{IntN.ℤ, IntN.pos, ListN.length, ListN.length-set, ListN.getD, ListN.set, Signed.mag, Signed.leZ}
+use Rattle.model.specs.declared.{Fields.Fields, Refusal.Refusal, Refusal.the-variants.Blocked, Refusal.the-variants.BlockedSpoken, Refusal.the-variants.Undefined, Refusal.the-variants.BudgetSpent, Value.Value, Value.the-variants.Is, Value.the-variants.Unknown, Tested.the-variants.Holds, Tested.the-variants.Fails, Tested.the-variants.Unsure, Outcome.Outcome, Outcome.the-variants.Ends, Outcome.the-variants.Stops}
 use Rattle.model.specs.Answers.{row, variable, number}
 use Rattle.model.specs.Values.{half16, mark, isZero, ofBool, plus}
-use Rattle.model.specs.Image.{Tables, int, tablesOf}
-use Rattle.model.specs.Decode.{actOf, actionAt}
-use Rattle.model.specs.Rows.{Binary, arithmetic, Plus, comparison, AtMost as isAtMost}
+use Rattle.model.specs.Image.{Tables, int, tablesOf, fieldsOf}
+use Rattle.model.specs.Decode.{actionAt, actOf}
+use Rattle.model.specs.Rows.{action, Binary, arithmetic, Plus, comparison, AtMost as isAtMost}
 use Rattle.model.specs.Trees.{var, const, binary, Action}
 use Rattle.model.specs.Run.{slot, store, defined, applyBinary, eval, test, gives, storing, exec, execAct}
 use Rattle.model.proofs.Run.{charge-spent, charge-some, then-ends, valued-is, valued-unknown}
@@ -17,7 +17,10 @@ use Rattle.values.proofs.Held.{held, held-is}
 use Rattle.expressions.specs.Operators.{valueOf}
 use Rattle.actions.specs.declared.{Run.Run, Ran.Ran}
 use Rattle.actions.specs.State.{stateOf, resultOf}
-use Rattle.told.specs.Told.{runOf}
+use Rattle.expressions.specs.Ready.{Runs}
+use Rattle.told.specs.Told.{runOf, ranOf}
+use Rattle.told.proofs.Coded.{out-ends}
+use Rattle.simple.proofs.Acts.{null-way, result-as}
 use Rattle.told.proofs.Kept.{set-left, set-words}
 use Rattle.machine.specs.Running.{Turned, SlotOf, Onward, AtMost}
 use Rattle.machine.proofs.Ways.{ran, answered, answered-same, then-over}
@@ -124,14 +127,17 @@ module _ (v : ℕ) (high : ℤ) {m : List ℤ} {y : Value} (e : y ≡ valueOf (g
 pub held-most : (z high : ℤ) {b : Bool} → mag z < 2 ^ 31 → mag high < 2 ^ 31 → leZ (held z) (held high) ≡ b → leZ z high ≡ b
 held-most z high k l e = sym (λ j. leZ (held-is z k j) (held-is high l j)) ∙ e
 
--- ---- an action that holds no other: its outcome told, its state put back
-pub leaf-told : (s : List ℕ) (r : ℕ) (script : List ℕ) {q : Ran} {o : Outcome} {run now from : Run} (m n values vs : List ℤ) → o ≡ q .out → run ≡ q .run → now ≡ from
-    → resultOf q n vs ≡ execAct (tablesOf s) (actOf (actionAt (tablesOf s) r)) script r (stateOf now m values)
-    → resultOf (ran o run) n vs ≡ execAct (tablesOf s) (actOf (actionAt (tablesOf s) r)) script r (stateOf from m values)
-leaf-told s r script m n values vs e f g h =
-    (λ j. resultOf (ran (e j) (f j)) n vs) ∙ h ∙ ap (λ (u : Run). execAct (tablesOf s) (actOf (actionAt (tablesOf s) r)) script r (stateOf u m values)) g
+-- ---- null
+pub null-told : {s : List ℕ} {rows r : ℕ} {m : List ℤ} → Runs action s rows r m → {w : Fields} → w ≡ fieldsOf (tablesOf s) r → (l : List ℕ) (values : List ℤ) (script : List ℕ)
+    → w .code ≡ 48 → resultOf (ranOf 0 l) m values ≡ execAct (tablesOf s) (actOf (actionAt (tablesOf s) r)) script r (stateOf (runOf l) m values)
+null-told {m = m} h e l values script c =
+    result-as 0 l m values out-ends
+    (null-way h e (runOf l) values script (omega arith) (λ k. omega arith) (λ k. omega arith) (λ k. omega arith) (λ k. omega arith) (λ k. omega arith))
 
 -- ---- the state in its slice
+pub set-length : (l l' : List ℕ) (i n : ℕ) → l' ≡ set l i n → length l' ≡ length l
+set-length l l' i n e = ap length e ∙ length-set l i n
+
 pub told-as : {o p : Outcome} (run : Run) → o ≡ p → ran o run ≡ ran p run
 told-as run e = ap (λ (u : Outcome). ran u run) e
 

@@ -1,4 +1,3 @@
-pub mod Late
 pub mod Parts
 pub mod Ways
 pub mod Helpers

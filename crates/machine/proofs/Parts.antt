@@ -158,9 +158,9 @@ module _ {s : List ℕ} {rows : ℕ} {r : ℕ} {m values : List ℤ} (h : Runnin
   simple-code isWhile n q f g j k l = absurd (k (sym q))
   simple-code isFor n q f g j k l = absurd (l (sym q))
 
-  pub simple-parts : (w .code ≡ 54 → ⊥) → (w .code ≡ 55 → ⊥) → (w .code ≡ 56 → ⊥) → (w .code ≡ 59 → ⊥) → (w .code ≡ 60 → ⊥) → Simple s (trailerOf s) r m values
+  pub simple-parts : (w .code ≡ 54 → ⊥) → (w .code ≡ 55 → ⊥) → (w .code ≡ 56 → ⊥) → (w .code ≡ 59 → ⊥) → (w .code ≡ 60 → ⊥) → Simple s rows r m values
   simple-parts f g j k l =
       let d = is-kind (tablesOf s) action r (h .kind) in
       let c : codeOf (anAction (d .0)) ≡ w .code = ap codeOf (sym (d .1)) ∙ code-of (tablesOf s) action r refl (h .kind) ∙ ap (λ (n : Fields). n .code) (sym e) in
       let small = simple-code (d .0) (w .code) c f g j k l in
-      record { ready = h .ready; trailer = refl; kind = h .kind; code = rw (← e) small; room = h .room }
+      record { ready = h .ready; start = h .start; kind = h .kind; code = rw (← e) small; room = h .room }

@@ -7,7 +7,10 @@ use Rattle.model.specs.Limits.{limits}
 use Rattle.model.specs.Answers.{variable, after, unless, each}
 use Rattle.model.specs.Image.{Tables, none, tablesOf}
 use Rattle.model.specs.Calls.{slotFits, StepDone, movedAs, attempt}
+use Rattle.model.specs.Run.{Res}
 use Rattle.expressions.specs.Ready.{Ready}
+use Rattle.actions.specs.declared.{Ran.Ran}
+use Rattle.actions.specs.State.{resultOf}
 use Rattle.stages.specs.Judging.{Cleared}
 
 -- an image free of 1 to 9, and a store with a slot for each variable
@@ -46,6 +49,12 @@ pub record Trying (s : List ℕ) (i : Image) (q : ℕ) (m values : List ℤ) (bu
   pub state : q < length (tablesOf s .states)
   pub room : length values ≡ 8
   pub few : budget ≤ 1000000
+
+-- what an attempt leaves, in slices as long as they were: the store in j, the label's values in u
+pub record Tried (p : Ran) (m j v u : List ℤ) (q : Res) : Type 0 where
+  pub result : resultOf p j u ≡ q
+  pub store : length j ≡ length m
+  pub values : length u ≡ length v
 
 -- a step that nothing refuses, with a working copy and room for a label's values
 pub record Steps (s : List ℕ) (i : Image) (q : State) (store : List ℤ) (budget : ℕ) (label work values : List ℤ) : Type 0 where

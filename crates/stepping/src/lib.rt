@@ -1,10 +1,11 @@
 // A step: its refusals in their order, one attempt on a working copy, and what is written back where it moves.
 ghost use mathlib.Core.Path.{_≡_};
 ghost use Rattle.model.specs.Image.{tablesOf};
-ghost use Rattle.model.specs.Calls.{slotFits, attempt, step};
+ghost use Rattle.model.specs.Calls.{slotFits, attempt, movedAs, step};
 ghost use Rattle.actions.specs.State.{resultOf};
+ghost use Rattle.finishing.specs.Finishing.{Finishes};
 ghost use Rattle.stages.specs.Judging.{Cleared};
-ghost use Rattle.stepping.specs.Stepping.{Slotted, SlotIn, slotsVerdict, runVerdict, ran, Trying, Steps, Runs};
+ghost use Rattle.stepping.specs.Stepping.{Slotted, SlotIn, slotsVerdict, runVerdict, ran, Trying, Tried, Steps, Runs};
 use actions::Ran;
 use actions::Run;
 use finishing::finish;
@@ -94,13 +95,13 @@ fn try_step(
     image: &[u8],
     i: Image,
     q: u16,
-    work: &mut [i32],
+    work: &mut &mut [i32],
     script: &[u8],
-    values: &mut [i32],
+    values: &mut [i32; 8],
     budget: u32,
 ) -> Ran
-    requires { ⌜ Trying (now image) i q (now work) (now values) budget ⌝ }
-    ensures { λ p. ⌜ resultOf p (now (work .exit)) (now (values .exit)) ≡ attempt (tablesOf (now (image .entry))) q (now (work .entry)) (now (script .entry)) budget ⌝ }
+    requires { ⌜ Trying (now image) i q (now (now work)) (now values) budget ⌝ }
+    ensures { λ p. ⌜ Tried p (now (now (work .entry))) (now (now (work .exit))) (now (values .entry)) (now (values .exit)) (attempt (tablesOf (now (image .entry))) q (now (now (work .entry))) (now (script .entry)) budget) ⌝ }
 {
     let mut run = [0usize; 5];
     put(
@@ -114,11 +115,27 @@ fn try_step(
         &mut run,
     );
     let r = state_row(image, i, q);
-    let n = run_action(image, i.rows, r, work, script, values, &mut run);
+    let n = run_action(&image, i.rows, r, work, &script, values, &mut run);
     Ran {
         out: outcome(n),
         run: taken(&run),
     }
+}
+
+// finish where the working copy and the values are lent to be changed, and aren't.
+fn finish_on(
+    ran: Ran,
+    at: u16,
+    budget: u32,
+    store: &mut [i32],
+    label: &mut [i32],
+    work: &mut [i32],
+    values: &mut [i32],
+) -> Stepped
+    requires { ⌜ Finishes ran budget (now store) (now label) (now work) (now values) ⌝ }
+    ensures { λ r. ⌜ record { answer = r; store = now (store .exit); label = now (label .exit) } ≡ movedAs (resultOf ran (now (work .entry)) (now (values .entry))) at budget (now (store .entry)) (now (label .entry)) ⌝ }
+{
+    finish(ran, at, budget, store, label, work, values)
 }
 
 // A step that nothing refuses, with a working copy and room for a label's values that its caller lends.
@@ -130,16 +147,16 @@ fn step_on(
     script: &[u8],
     budget: u32,
     label: &mut [i32],
-    work: &mut [i32],
-    values: &mut [i32],
+    work: &mut &mut [i32],
+    values: &mut [i32; 8],
 ) -> Stepped
-    requires { ⌜ Steps (now image) i q (now store) budget (now label) (now work) (now values) ⌝ }
+    requires { ⌜ Steps (now image) i q (now store) budget (now label) (now (now work)) (now values) ⌝ }
     ensures { λ r. ⌜ record { answer = r; store = now (store .exit); label = now (label .exit) } ≡ ran (tablesOf (now (image .entry))) q (now (store .entry)) (now (script .entry)) budget (now (label .entry)) ⌝ }
 {
-    copy(work, store);
+    copy(*work, store);
     let p = try_step(image, i, q.0, work, script, values, budget);
     let at = state_row(image, i, q.0);
-    finish(p, at, budget, store, label, work, values)
+    finish_on(p, at, budget, store, label, *work, values)
 }
 
 fn run_step(
@@ -165,7 +182,7 @@ fn run_step(
         script,
         budget,
         label,
-        &mut work[..n],
+        &mut &mut work[..n],
         &mut values,
     )
 }

@@ -1,11 +1,11 @@
 -- The run's state in its slice. Assumes nothing.
-use mathlib.Core.{Path._≡_, Path.refl, Bool.Bool, Bool.true, Bool.false, List.List, List.[], List._∷_}
+use mathlib.Core.{Path._≡_, Path.refl, Path.ap, Path._∙_, Bool.Bool, Bool.true, Bool.false, List.List, List.[], List._∷_}
 use Prim.Native.Nat.{ℕ, _-_, _≤_, _<_}
 use mir.Val.{boolByte}
 use native.Mathlib.{Nat.mod-eq-of-lt, Omega.arith}
 use lib.{Dec.eqb, ListN.length, ListN.length-set, ListN.set}
 use Rattle.actions.specs.declared.{Run.Run}
-use Rattle.told.specs.Told.{runOf}
+use Rattle.told.specs.Told.{runOf, Puts}
 
 -- one slot written
 pub set-left : (l : List ℕ) (n : ℕ) → 5 ≤ length l
@@ -20,15 +20,6 @@ set-words [] n h = absurd (omega arith)
 set-words (a ∷ l) n h = refl
 
 -- all written
-pub set-1 : (l : List ℕ) (a : ℕ) → 5 ≤ length l → 1 < length (set l 0 a)
-set-1 l a h = omega (arith, length-set l 0 a)
-
-pub set-2 : (l : List ℕ) (a b : ℕ) → 5 ≤ length l → 2 < length (set (set l 0 a) 1 b)
-set-2 l a b h = omega (arith, length-set l 0 a, length-set (set l 0 a) 1 b)
-
-pub set-3 : (l : List ℕ) (a b c : ℕ) → 5 ≤ length l → 3 < length (set (set (set l 0 a) 1 b) 2 c)
-set-3 l a b c h = omega (arith, length-set l 0 a, length-set (set l 0 a) 1 b, length-set (set (set l 0 a) 1 b) 2 c)
-
 bool-is : (b : Bool) → eqb (boolByte b) 1 ≡ b
 bool-is true = refl
 bool-is false = refl
@@ -42,3 +33,6 @@ set-all (_ ∷ _ ∷ _ ∷ []) q h g c = absurd (omega arith)
 set-all (_ ∷ _ ∷ _ ∷ _ ∷ []) q h g c = absurd (omega arith)
 set-all (_ ∷ _ ∷ _ ∷ _ ∷ _ ∷ l) q h g c =
     λ j. record { words = q .words; left = q .left; spoken = bool-is (q .spoken) j; gate = mod-eq-of-lt g j; count = mod-eq-of-lt c j }
+
+pub slots-length : {q : Run} {l k : List ℕ} → Puts q l k → length k ≡ length l
+slots-length p = ap length (p .slots) ∙ simp length-set refl

@@ -2,10 +2,12 @@
 use mathlib.Core.{Path._≡_, Bool.cond, List.List}
 use Prim.Native.Nat.{ℕ, _+_, _-_, _*_, _/_, _%_, _≤_}
 use mir.Val.{boolByte}
-use lib.{Dec.eqb, Dec.ltb, ListN.getD, ListN.set}
+use lib.{Dec.eqb, Dec.ltb, IntN.ℤ, ListN.length, ListN.getD, ListN.set}
 use Rattle.model.specs.declared.{Row.Row, Refusal.Refusal, Refusal.the-variants.Blocked, Refusal.the-variants.Undefined, Refusal.the-variants.ScriptEnded, Refusal.the-variants.WordOutOfRange, Refusal.the-variants.BudgetSpent, Refusal.the-variants.BlockedSpoken, Refusal.the-variants.SecondCommunication, Outcome.Outcome, Outcome.the-variants.Ends, Outcome.the-variants.Jumps, Outcome.the-variants.Stops}
 use Rattle.model.specs.Answers.{state, row, number, place}
+use Rattle.model.specs.Run.{Res}
 use Rattle.actions.specs.declared.{Run.Run, Ran.Ran}
+use Rattle.actions.specs.State.{resultOf}
 
 -- words read, units left, whether something was said, its gate, the number of its values
 abbrev pub runOf : List ℕ → Run
@@ -60,3 +62,10 @@ ranOf n l = record { out = outcomeOf n; run = runOf l }
 -- a refusal of a run
 pub record OfRun (o : Outcome) : Type 0 where
   pub late : (y : Refusal) → o ≡ Stops y → 21 ≤ number y
+
+-- what a run told as n leaves in its slices, each as long as it was: its state in k, the store in j, the label's values in u
+pub record Leaves (n : ℕ) (l k : List ℕ) (m j v u : List ℤ) (q : Res) : Type 0 where
+  pub result : resultOf (ranOf n k) j u ≡ q
+  pub run : length k ≡ length l
+  pub store : length j ≡ length m
+  pub values : length u ≡ length v

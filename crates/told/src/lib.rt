@@ -77,8 +77,7 @@ pub fn outcome(n: u32) -> Outcome
 }
 
 // A run's state, taken out of its slice.
-pub fn taken(run: &[usize]) -> Run
-    requires { ⌜ 5 ≤ length (now run) ⌝ }
+pub fn taken(run: &[usize; 5]) -> Run
     ensures { λ r. ⌜ r ≡ runOf (now (run .entry)) ⌝ }
 {
     Run {
@@ -91,7 +90,7 @@ pub fn taken(run: &[usize]) -> Run
 }
 
 // And put back.
-pub fn put(q: Run, run: &mut [usize])
+pub fn put(q: Run, run: &mut [usize; 5])
     requires { ⌜ 5 ≤ length (now run) ⌝ }
     ensures { λ _. ⌜ Puts q (now (run .entry)) (now (run .exit)) ⌝ }
 {
@@ -103,40 +102,37 @@ pub fn put(q: Run, run: &mut [usize])
 }
 
 // The units left.
-pub fn left(run: &[usize]) -> usize
-    requires { ⌜ 5 ≤ length (now run) ⌝ }
+pub fn left(run: &[usize; 5]) -> usize
     ensures { λ n. ⌜ n ≡ runOf (now (run .entry)) .left ⌝ }
 {
     run[LEFT]
 }
 
 // One unit less.
-pub fn charge(run: &mut [usize])
-    requires { ⌜ (5 ≤ length (now run)) × (1 ≤ runOf (now run) .left) ⌝ }
+pub fn charge(run: &mut [usize; 5])
+    requires { ⌜ 1 ≤ runOf (now run) .left ⌝ }
     ensures { λ _. ⌜ now (run .exit) ≡ set (now (run .entry)) 1 (runOf (now (run .entry)) .left - 1) ⌝ }
 {
     run[LEFT] -= 1;
 }
 
 // The words read.
-pub fn words(run: &[usize]) -> usize
-    requires { ⌜ 5 ≤ length (now run) ⌝ }
+pub fn words(run: &[usize; 5]) -> usize
     ensures { λ n. ⌜ n ≡ runOf (now (run .entry)) .words ⌝ }
 {
     run[WORDS]
 }
 
 // One word more.
-pub fn hear(run: &mut [usize])
-    requires { ⌜ (5 ≤ length (now run)) × (runOf (now run) .words + 1 < 2 ^ 64) ⌝ }
+pub fn hear(run: &mut [usize; 5])
+    requires { ⌜ runOf (now run) .words + 1 < 2 ^ 64 ⌝ }
     ensures { λ _. ⌜ now (run .exit) ≡ set (now (run .entry)) 0 (runOf (now (run .entry)) .words + 1) ⌝ }
 {
     run[WORDS] += 1;
 }
 
 // Whether something was said.
-pub fn spoken(run: &[usize]) -> bool
-    requires { ⌜ 5 ≤ length (now run) ⌝ }
+pub fn spoken(run: &[usize; 5]) -> bool
     ensures { λ b. ⌜ b ≡ runOf (now (run .entry)) .spoken ⌝ }
 {
     run[SPOKEN] == 1

@@ -13,10 +13,11 @@ blocked-at-requires : tie.Need-blocked-at-requires
 blocked-at-requires c κs = search needs
 
 stopped-requires : tie.Need-stopped-requires
-stopped-requires c κs = blocked-late (c .before .spoken .result) (c .before .before .before .args .r) (c .blocked-at .ensures)
+stopped-requires c κs = blocked-late (c .before .spoken .result) (c .before .before .args .r) (c .blocked-at .ensures)
 
 returns : tie.Need-returns
-returns c = c .stopped .ensures .outcome ∙ ap Stops (c .before .blocked-at .ensures) ∙ ap (λ (b : Bool). Stops (cond b (BlockedSpoken (row (c .before .before .before .before .args .r))) (Blocked (row (c .before .before .before .before .args .r))))) (c .before .before .spoken .ensures)
+returns c =
+    c .stopped .ensures .outcome ∙ ap Stops (c .before .blocked-at .ensures) ∙ ap (λ (b : Bool). Stops (cond b (BlockedSpoken (row (c .before .before .before .args .r))) (Blocked (row (c .before .before .before .args .r))))) (c .before .before .spoken .ensures)
 
 pub blocked-spec : {M : Type 1} → statement M
 blocked-spec = tie.close (tie.spec spoken-requires blocked-at-requires stopped-requires returns)

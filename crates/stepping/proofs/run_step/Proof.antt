@@ -7,20 +7,15 @@ use Rattle.stepping.proofs.run_step.Statement.{statement}
 use Rattle.stepping.proofs.run_step.Tie as tie
 
 array-borrow-prefix-work : tie.Need-array-borrow-prefix-work
-array-borrow-prefix-work c =
-    store-few (c .before .before .before .before .pre)
+array-borrow-prefix-work c = store-few (c .before .before .before .before .pre)
 
 slice-aggregate-step-on : tie.Need-slice-aggregate-step-on
 slice-aggregate-step-on c =
     let l = store-few (c .before .before .before .before .before .pre) in simp length-take (omega (arith, l))
 
-slice-aggregate-step-on-2 : tie.Need-slice-aggregate-step-on-2
-slice-aggregate-step-on-2 c = search needs
-
 step-on-requires : tie.Need-step-on-requires
 step-on-requires c κs =
-    let l = store-few (c .before .before .before .before .before .before .pre) in
-    to-steps _ _ (c .before .before .before .before .before .before .pre) (simp length-take (omega (arith, l))) refl
+    let l = store-few (c .before .before .before .before .before .before .before .pre) in to-steps _ _ (c .before .before .before .before .before .before .before .pre) (simp length-take (omega (arith, l))) refl
 
 same-length : tie.Need-same-length
 same-length c = search needs
@@ -32,13 +27,4 @@ returns : tie.Need-returns
 returns c = search needs
 
 pub run-step-spec : {M : Type 1} → statement M
-run-step-spec =
-    tie.close
-    (tie.spec
-    array-borrow-prefix-work
-    slice-aggregate-step-on
-    slice-aggregate-step-on-2
-    step-on-requires
-    same-length
-    same-length-2
-    returns)
+run-step-spec = tie.close (tie.spec array-borrow-prefix-work slice-aggregate-step-on step-on-requires same-length same-length-2 returns)

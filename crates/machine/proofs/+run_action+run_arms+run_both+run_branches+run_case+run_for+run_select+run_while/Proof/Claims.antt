@@ -27,15 +27,16 @@ use Rattle.machine.proofs.+run_action+run_arms+run_both+run_branches+ru
 use Rattle.machine.proofs.run_while.Reads as run-while
 use Rattle.machine.proofs.run_while.Kinds as run-while-kinds
 use Rattle.machine.proofs.+run_action+run_arms+run_both+run_branches+run_case+run_for+run_select+run_while.Lts-run_while as run-while-lts
-use Rattle.expressions.proofs.eval.Reads as eval-reads
 use Rattle.expressions.proofs.row.Reads as row-reads
-use Rattle.expressions.proofs.test.Reads as test-reads
 use Rattle.machine.proofs.again.Reads as again-reads
 use Rattle.machine.proofs.at_most.Reads as at-most-reads
 use Rattle.machine.proofs.blocked.Reads as blocked-reads
+use Rattle.machine.proofs.eval_on.Reads as eval-on-reads
+use Rattle.machine.proofs.no_word.Reads as no-word-reads
 use Rattle.machine.proofs.onward.Reads as onward-reads
-use Rattle.machine.proofs.run_leaf.Reads as run-leaf-reads
+use Rattle.machine.proofs.test_on.Reads as test-on-reads
 use Rattle.patterns.proofs.find_arm.Reads as find-arm-reads
+use Rattle.simple.proofs.run_simple.Reads as run-simple-reads
 use Rattle.told.proofs.charge.Reads as charge-reads
 use Rattle.told.proofs.hear.Reads as hear-reads
 use Rattle.told.proofs.left.Reads as left-reads
@@ -45,80 +46,80 @@ use Rattle.values.proofs.signed.Reads as signed-reads
 use Rattle.values.proofs.size.Reads as size-reads
 use Rattle.words.proofs.word.Reads as word-reads
 
-abbrev pub μ-run-action : Measures 5 run-action-kinds.ps ℕ
+abbrev pub μ-run-action : Measures 8 run-action-kinds.ps ℕ
 μ-run-action κs a = runOf (a .1 .1 .1 .1 .1 .1 .0 .now) .left * 3
 
-abbrev pub μ-run-arms : Measures 5 run-arms-kinds.ps ℕ
+abbrev pub μ-run-arms : Measures 8 run-arms-kinds.ps ℕ
 μ-run-arms κs a = runOf (a .1 .1 .1 .1 .1 .1 .1 .1 .0 .now) .left * 3 + 1
 
-abbrev pub μ-run-both : Measures 5 run-both-kinds.ps ℕ
+abbrev pub μ-run-both : Measures 8 run-both-kinds.ps ℕ
 μ-run-both κs a = runOf (a .1 .1 .1 .1 .1 .1 .1 .0 .now) .left * 3 + 1
 
-abbrev pub μ-run-branches : Measures 5 run-branches-kinds.ps ℕ
+abbrev pub μ-run-branches : Measures 8 run-branches-kinds.ps ℕ
 μ-run-branches κs a = runOf (a .1 .1 .1 .1 .1 .1 .1 .1 .0 .now) .left * 3 + 1
 
-abbrev pub μ-run-case : Measures 5 run-case-kinds.ps ℕ
+abbrev pub μ-run-case : Measures 8 run-case-kinds.ps ℕ
 μ-run-case κs a = runOf (a .1 .1 .1 .1 .1 .1 .1 .1 .0 .now) .left * 3 + 2
 
-abbrev pub μ-run-for : Measures 5 run-for-kinds.ps ℕ
+abbrev pub μ-run-for : Measures 8 run-for-kinds.ps ℕ
 μ-run-for κs a = runOf (a .1 .1 .1 .1 .1 .1 .1 .1 .0 .now) .left * 3 + 1
 
-abbrev pub μ-run-select : Measures 5 run-select-kinds.ps ℕ
+abbrev pub μ-run-select : Measures 8 run-select-kinds.ps ℕ
 μ-run-select κs a = runOf (a .1 .1 .1 .1 .1 .1 .1 .0 .now) .left * 3 + 2
 
-abbrev pub μ-run-while : Measures 5 run-while-kinds.ps ℕ
+abbrev pub μ-run-while : Measures 8 run-while-kinds.ps ℕ
 μ-run-while κs a = runOf (a .1 .1 .1 .1 .1 .1 .1 .1 .0 .now) .left * 3 + 1
 
-abbrev pub run-action-at : ℕ → In 5 run-action-kinds.ps
-run-action-at t = and 5 run-action-kinds.ps (is 5 run-action-kinds.ps μ-run-action t) run-action.Pre
+abbrev pub run-action-at : ℕ → In 8 run-action-kinds.ps
+run-action-at t = and 8 run-action-kinds.ps (is 8 run-action-kinds.ps μ-run-action t) run-action.Pre
 
-abbrev pub run-action-below : ℕ → In 5 run-action-kinds.ps
-run-action-below t = and 5 run-action-kinds.ps (falls 5 run-action-kinds.ps _<_ μ-run-action t) run-action.Pre
+abbrev pub run-action-below : ℕ → In 8 run-action-kinds.ps
+run-action-below t = and 8 run-action-kinds.ps (falls 8 run-action-kinds.ps _<_ μ-run-action t) run-action.Pre
 
-abbrev pub run-arms-at : ℕ → In 5 run-arms-kinds.ps
-run-arms-at t = and 5 run-arms-kinds.ps (is 5 run-arms-kinds.ps μ-run-arms t) run-arms.Pre
+abbrev pub run-arms-at : ℕ → In 8 run-arms-kinds.ps
+run-arms-at t = and 8 run-arms-kinds.ps (is 8 run-arms-kinds.ps μ-run-arms t) run-arms.Pre
 
-abbrev pub run-arms-below : ℕ → In 5 run-arms-kinds.ps
-run-arms-below t = and 5 run-arms-kinds.ps (falls 5 run-arms-kinds.ps _<_ μ-run-arms t) run-arms.Pre
+abbrev pub run-arms-below : ℕ → In 8 run-arms-kinds.ps
+run-arms-below t = and 8 run-arms-kinds.ps (falls 8 run-arms-kinds.ps _<_ μ-run-arms t) run-arms.Pre
 
-abbrev pub run-both-at : ℕ → In 5 run-both-kinds.ps
-run-both-at t = and 5 run-both-kinds.ps (is 5 run-both-kinds.ps μ-run-both t) run-both.Pre
+abbrev pub run-both-at : ℕ → In 8 run-both-kinds.ps
+run-both-at t = and 8 run-both-kinds.ps (is 8 run-both-kinds.ps μ-run-both t) run-both.Pre
 
-abbrev pub run-both-below : ℕ → In 5 run-both-kinds.ps
-run-both-below t = and 5 run-both-kinds.ps (falls 5 run-both-kinds.ps _<_ μ-run-both t) run-both.Pre
+abbrev pub run-both-below : ℕ → In 8 run-both-kinds.ps
+run-both-below t = and 8 run-both-kinds.ps (falls 8 run-both-kinds.ps _<_ μ-run-both t) run-both.Pre
 
-abbrev pub run-branches-at : ℕ → In 5 run-branches-kinds.ps
-run-branches-at t = and 5 run-branches-kinds.ps (is 5 run-branches-kinds.ps μ-run-branches t) run-branches.Pre
+abbrev pub run-branches-at : ℕ → In 8 run-branches-kinds.ps
+run-branches-at t = and 8 run-branches-kinds.ps (is 8 run-branches-kinds.ps μ-run-branches t) run-branches.Pre
 
-abbrev pub run-branches-below : ℕ → In 5 run-branches-kinds.ps
-run-branches-below t = and 5 run-branches-kinds.ps (falls 5 run-branches-kinds.ps _<_ μ-run-branches t) run-branches.Pre
+abbrev pub run-branches-below : ℕ → In 8 run-branches-kinds.ps
+run-branches-below t = and 8 run-branches-kinds.ps (falls 8 run-branches-kinds.ps _<_ μ-run-branches t) run-branches.Pre
 
-abbrev pub run-case-at : ℕ → In 5 run-case-kinds.ps
-run-case-at t = and 5 run-case-kinds.ps (is 5 run-case-kinds.ps μ-run-case t) run-case.Pre
+abbrev pub run-case-at : ℕ → In 8 run-case-kinds.ps
+run-case-at t = and 8 run-case-kinds.ps (is 8 run-case-kinds.ps μ-run-case t) run-case.Pre
 
-abbrev pub run-case-below : ℕ → In 5 run-case-kinds.ps
-run-case-below t = and 5 run-case-kinds.ps (falls 5 run-case-kinds.ps _<_ μ-run-case t) run-case.Pre
+abbrev pub run-case-below : ℕ → In 8 run-case-kinds.ps
+run-case-below t = and 8 run-case-kinds.ps (falls 8 run-case-kinds.ps _<_ μ-run-case t) run-case.Pre
 
-abbrev pub run-for-at : ℕ → In 5 run-for-kinds.ps
-run-for-at t = and 5 run-for-kinds.ps (is 5 run-for-kinds.ps μ-run-for t) run-for.Pre
+abbrev pub run-for-at : ℕ → In 8 run-for-kinds.ps
+run-for-at t = and 8 run-for-kinds.ps (is 8 run-for-kinds.ps μ-run-for t) run-for.Pre
 
-abbrev pub run-for-below : ℕ → In 5 run-for-kinds.ps
-run-for-below t = and 5 run-for-kinds.ps (falls 5 run-for-kinds.ps _<_ μ-run-for t) run-for.Pre
+abbrev pub run-for-below : ℕ → In 8 run-for-kinds.ps
+run-for-below t = and 8 run-for-kinds.ps (falls 8 run-for-kinds.ps _<_ μ-run-for t) run-for.Pre
 
-abbrev pub run-select-at : ℕ → In 5 run-select-kinds.ps
-run-select-at t = and 5 run-select-kinds.ps (is 5 run-select-kinds.ps μ-run-select t) run-select.Pre
+abbrev pub run-select-at : ℕ → In 8 run-select-kinds.ps
+run-select-at t = and 8 run-select-kinds.ps (is 8 run-select-kinds.ps μ-run-select t) run-select.Pre
 
-abbrev pub run-select-below : ℕ → In 5 run-select-kinds.ps
-run-select-below t = and 5 run-select-kinds.ps (falls 5 run-select-kinds.ps _<_ μ-run-select t) run-select.Pre
+abbrev pub run-select-below : ℕ → In 8 run-select-kinds.ps
+run-select-below t = and 8 run-select-kinds.ps (falls 8 run-select-kinds.ps _<_ μ-run-select t) run-select.Pre
 
-abbrev pub run-while-at : ℕ → In 5 run-while-kinds.ps
-run-while-at t = and 5 run-while-kinds.ps (is 5 run-while-kinds.ps μ-run-while t) run-while.Pre
+abbrev pub run-while-at : ℕ → In 8 run-while-kinds.ps
+run-while-at t = and 8 run-while-kinds.ps (is 8 run-while-kinds.ps μ-run-while t) run-while.Pre
 
-abbrev pub run-while-below : ℕ → In 5 run-while-kinds.ps
-run-while-below t = and 5 run-while-kinds.ps (falls 5 run-while-kinds.ps _<_ μ-run-while t) run-while.Pre
+abbrev pub run-while-below : ℕ → In 8 run-while-kinds.ps
+run-while-below t = and 8 run-while-kinds.ps (falls 8 run-while-kinds.ps _<_ μ-run-while t) run-while.Pre
 
 abbrev pub run-action-calls : ℕ → run-action-lts.Claims
-run-action-calls t = (left-reads.Asked, left-reads.Learnt, stopped-reads.Asked, stopped-reads.Learnt, charge-reads.Asked, charge-reads.Learnt, row-reads.Asked, row-reads.Learnt, run-both-below t, run-both.Post, run-select-below t, run-select.Post, run-case-below t, run-case.Post, run-while-below t, run-while.Post, run-for-below t, run-for.Post, run-leaf-reads.Asked, run-leaf-reads.Learnt)
+run-action-calls t = (left-reads.Asked, left-reads.Learnt, stopped-reads.Asked, stopped-reads.Learnt, charge-reads.Asked, charge-reads.Learnt, row-reads.Asked, row-reads.Learnt, run-both-below t, run-both.Post, run-select-below t, run-select.Post, run-case-below t, run-case.Post, run-while-below t, run-while.Post, run-for-below t, run-for.Post, run-simple-reads.Asked, run-simple-reads.Learnt)
 
 abbrev pub run-arms-calls : ℕ → run-arms-lts.Claims
 run-arms-calls t = (find-arm-reads.Asked, find-arm-reads.Learnt, run-action-below t, run-action.Post, blocked-reads.Asked, blocked-reads.Learnt, stopped-reads.Asked, stopped-reads.Learnt)
@@ -130,13 +131,13 @@ abbrev pub run-branches-calls : ℕ → run-branches-lts.Claims
 run-branches-calls t = (stopped-reads.Asked, stopped-reads.Learnt, row-reads.Asked, row-reads.Learnt, run-action-below t, run-action.Post)
 
 abbrev pub run-case-calls : ℕ → run-case-lts.Claims
-run-case-calls t = (eval-reads.Asked, eval-reads.Learnt, run-arms-below t, run-arms.Post, stopped-reads.Asked, stopped-reads.Learnt)
+run-case-calls t = (eval-on-reads.Asked, eval-on-reads.Learnt, run-arms-below t, run-arms.Post, stopped-reads.Asked, stopped-reads.Learnt)
 
 abbrev pub run-for-calls : ℕ → run-for-lts.Claims
 run-for-calls t = (row-reads.Asked, row-reads.Learnt, signed-reads.Asked, signed-reads.Learnt, at-most-reads.Asked, at-most-reads.Learnt, stopped-reads.Asked, stopped-reads.Learnt, run-action-below t, run-action.Post, onward-reads.Asked, onward-reads.Learnt, again-reads.Asked, again-reads.Learnt)
 
 abbrev pub run-select-calls : ℕ → run-select-lts.Claims
-run-select-calls t = (blocked-reads.Asked, blocked-reads.Learnt, words-reads.Asked, words-reads.Learnt, stopped-reads.Asked, stopped-reads.Learnt, word-reads.Asked, word-reads.Learnt, hear-reads.Asked, hear-reads.Learnt, size-reads.Asked, size-reads.Learnt, run-branches-below t, run-branches.Post)
+run-select-calls t = (blocked-reads.Asked, blocked-reads.Learnt, words-reads.Asked, words-reads.Learnt, no-word-reads.Asked, no-word-reads.Learnt, stopped-reads.Asked, stopped-reads.Learnt, word-reads.Asked, word-reads.Learnt, hear-reads.Asked, hear-reads.Learnt, size-reads.Asked, size-reads.Learnt, run-branches-below t, run-branches.Post)
 
 abbrev pub run-while-calls : ℕ → run-while-lts.Claims
-run-while-calls t = (test-reads.Asked, test-reads.Learnt, stopped-reads.Asked, stopped-reads.Learnt, run-action-below t, run-action.Post, again-reads.Asked, again-reads.Learnt)
+run-while-calls t = (test-on-reads.Asked, test-on-reads.Learnt, stopped-reads.Asked, stopped-reads.Learnt, run-action-below t, run-action.Post, again-reads.Asked, again-reads.Learnt)

@@ -1,5 +1,5 @@
 -- While and for: the needs of the cycle's proof. Assumes nothing.
-use mathlib.Core.Path.{_≡_, refl, sym, _∙_}
+use mathlib.Core.Path.{_≡_, refl, sym, ap, _∙_}
 use Prim.Native.Nat.{ℕ}
 use native.Mathlib.Omega.{arith}
 use borrow.Author.Needs.{needs}
@@ -17,7 +17,7 @@ use Rattle.machine.proofs.+run_action+run_arms+run_both+run_branches+ru
 
 abbrev pub run-while-Inv-loop : run-while-lts.InvT-loop
 run-while-Inv-loop image rows r e a store₀ script values₀ run₀ store values run =
-    Whiles image rows r e a script store₀ values₀ (runOf run₀) store values (runOf run) × (length run ≡ length run₀)
+    Whiles (image .now) rows r e a (script .now) (store₀ .now) values₀ (runOf run₀) (store .now) values (runOf run) × (length run ≡ length run₀)
 
 abbrev pub run-while-μ-loop : run-while-lts.MeasureT-loop
 run-while-μ-loop image rows r e a store₀ script values₀ run₀ store values run =
@@ -25,31 +25,28 @@ run-while-μ-loop image rows r e a store₀ script values₀ run₀ store values
 
 pub run-while-loop-holds : (t : ℕ) → run-while-lts.Need-loop-holds (run-while-calls t) (run-while-at t) run-while.Post run-while-Inv-loop run-while-μ-loop
 run-while-loop-holds t c =
-    (while-first (c .before .before .before .args .script .now) (runOf (c .before .before .before .args .run .now)) (c .before .before .before .pre .1 .0), refl)
+    (while-first (c .args .script .now .now) (runOf (c .args .run .now)) (c .pre .1 .0), refl)
 
-pub run-while-test-requires : (t : ℕ) → run-while-lts.Need-test-requires (run-while-calls t) (run-while-at t) run-while.Post run-while-Inv-loop run-while-μ-loop
-run-while-test-requires t c κs =
-    while-test (c .before .loop .inv .0)
+pub run-while-slice-aggregate-test-on : (t : ℕ) → run-while-lts.Need-slice-aggregate-test-on (run-while-calls t) (run-while-at t) run-while.Post run-while-Inv-loop run-while-μ-loop
+run-while-slice-aggregate-test-on t c =
+    search needs
+
+pub run-while-test-on-requires : (t : ℕ) → run-while-lts.Need-test-on-requires (run-while-calls t) (run-while-at t) run-while.Post run-while-Inv-loop run-while-μ-loop
+run-while-test-on-requires t c κs =
+    while-test (c .before .before .loop .inv .0)
 
 pub run-while-enum-told : (t : ℕ) → run-while-lts.Need-enum-told (run-while-calls t) (run-while-at t) run-while.Post run-while-Inv-loop run-while-μ-loop
 run-while-enum-told t c =
     search needs
 
-pub run-while-same-length : (t : ℕ) → run-while-lts.Need-same-length (run-while-calls t) (run-while-at t) run-while.Post run-while-Inv-loop run-while-μ-loop
-run-while-same-length t c =
-    c .before .before .before .before .loop .inv .0 .store
-
-pub run-while-same-length-2 : (t : ℕ) → run-while-lts.Need-same-length-2 (run-while-calls t) (run-while-at t) run-while.Post run-while-Inv-loop run-while-μ-loop
-run-while-same-length-2 t c =
-    c .before .before .before .before .loop .inv .0 .buffer
-
-pub run-while-same-length-3 : (t : ℕ) → run-while-lts.Need-same-length-3 (run-while-calls t) (run-while-at t) run-while.Post run-while-Inv-loop run-while-μ-loop
-run-while-same-length-3 t c =
-    c .before .before .before .before .loop .inv .1
-
 pub run-while-returns : (t : ℕ) → run-while-lts.Need-returns (run-while-calls t) (run-while-at t) run-while.Post run-while-Inv-loop run-while-μ-loop
 run-while-returns t c =
-    while-ends (c .before .before .before .before .loop .inv .0) (c .before .before .test .ensures) (c .enum-told .given .1) (told-as (runOf (c .before .before .before .before .loop .run)) out-ends)
+    record {
+      result = rw (c .before .before .test-on .ensures .1) (while-ends (c .before .before .before .before .before .loop .inv .0) (c .before .before .test-on .ensures .0) (c .enum-told .given .1) (told-as (runOf (c .before .before .before .before .before .loop .run)) out-ends));
+      run = c .before .before .before .before .before .loop .inv .1;
+      store = ap length (c .before .before .test-on .ensures .1) ∙ c .before .before .before .before .before .loop .inv .0 .store;
+      values = c .before .before .before .before .before .loop .inv .0 .buffer;
+    }
 
 pub run-while-enum-told-2 : (t : ℕ) → run-while-lts.Need-enum-told-2 (run-while-calls t) (run-while-at t) run-while.Post run-while-Inv-loop run-while-μ-loop
 run-while-enum-told-2 t c =
@@ -59,21 +56,14 @@ pub run-while-stopped-requires : (t : ℕ) → run-while-lts.Need-stopped-requir
 run-while-stopped-requires t c κs =
     omega arith
 
-pub run-while-same-length-4 : (t : ℕ) → run-while-lts.Need-same-length-4 (run-while-calls t) (run-while-at t) run-while.Post run-while-Inv-loop run-while-μ-loop
-run-while-same-length-4 t c =
-    c .before .before .before .before .before .loop .inv .0 .store
-
-pub run-while-same-length-5 : (t : ℕ) → run-while-lts.Need-same-length-5 (run-while-calls t) (run-while-at t) run-while.Post run-while-Inv-loop run-while-μ-loop
-run-while-same-length-5 t c =
-    c .before .before .before .before .before .loop .inv .0 .buffer
-
-pub run-while-same-length-6 : (t : ℕ) → run-while-lts.Need-same-length-6 (run-while-calls t) (run-while-at t) run-while.Post run-while-Inv-loop run-while-μ-loop
-run-while-same-length-6 t c =
-    c .before .before .before .before .before .loop .inv .1
-
 pub run-while-returns-2 : (t : ℕ) → run-while-lts.Need-returns-2 (run-while-calls t) (run-while-at t) run-while.Post run-while-Inv-loop run-while-μ-loop
 run-while-returns-2 t c =
-    while-unsure (c .before .before .before .before .before .loop .inv .0) (c .before .before .before .test .ensures) (c .before .enum-told2 .given .1) (told-as (runOf (c .before .before .before .before .before .loop .run)) (c .stopped .ensures .outcome))
+    record {
+      result = rw (c .before .before .before .test-on .ensures .1) (while-unsure (c .before .before .before .before .before .before .loop .inv .0) (c .before .before .before .test-on .ensures .0) (c .before .enum-told2 .given .1) (told-as (runOf (c .before .before .before .before .before .before .loop .run)) (c .stopped .ensures .outcome)));
+      run = c .before .before .before .before .before .before .loop .inv .1;
+      store = ap length (c .before .before .before .test-on .ensures .1) ∙ c .before .before .before .before .before .before .loop .inv .0 .store;
+      values = c .before .before .before .before .before .before .loop .inv .0 .buffer;
+    }
 
 pub run-while-enum-told-3 : (t : ℕ) → run-while-lts.Need-enum-told-3 (run-while-calls t) (run-while-at t) run-while.Post run-while-Inv-loop run-while-μ-loop
 run-while-enum-told-3 t c =
@@ -81,39 +71,32 @@ run-while-enum-told-3 t c =
 
 pub run-while-run-action-requires : (t : ℕ) → run-while-lts.Need-run-action-requires (run-while-calls t) (run-while-at t) run-while.Post run-while-Inv-loop run-while-μ-loop
 run-while-run-action-requires t c κs =
-    (omega (arith, c .before .before .before .before .before .before .before .before .before .before .before .pre .0, c .before .before .before .before .before .before .before .loop .inv .0 .less), (c .before .before .before .before .before .before .before .loop .inv .0 .going .body, omega (arith, c .before .before .before .before .before .before .before .loop .inv .1, c .before .before .before .before .before .before .before .before .before .before .before .pre .1 .1)))
+    (omega (arith, c .before .before .before .before .before .before .before .before .before .pre .0, c .before .before .before .before .before .before .before .before .loop .inv .0 .less), (rw (c .before .before .before .before .before .test-on .ensures .1) (c .before .before .before .before .before .before .before .before .loop .inv .0 .going .body), omega (arith, c .before .before .before .before .before .before .before .before .loop .inv .1, c .before .before .before .before .before .before .before .before .before .pre .1 .1)))
 
 pub run-while-again-requires : (t : ℕ) → run-while-lts.Need-again-requires (run-while-calls t) (run-while-at t) run-while.Post run-while-Inv-loop run-while-μ-loop
 run-while-again-requires t c κs =
-    omega (arith, c .before .before .before .before .before .run-action .kept .1 .1 .1 .1 .1 .1 .0, c .before .before .before .before .before .before .before .before .before .before .before .before .before .loop .inv .1, c .before .before .before .before .before .before .before .before .before .before .before .before .before .before .before .before .before .pre .1 .1)
-
-pub run-while-same-length-7 : (t : ℕ) → run-while-lts.Need-same-length-7 (run-while-calls t) (run-while-at t) run-while.Post run-while-Inv-loop run-while-μ-loop
-run-while-same-length-7 t c =
-    c .before .before .before .before .before .before .before .before .before .run-action .kept .1 .1 .1 .0 ∙ c .before .before .before .before .before .before .before .before .before .before .before .before .before .before .before .before .before .loop .inv .0 .store
-
-pub run-while-same-length-8 : (t : ℕ) → run-while-lts.Need-same-length-8 (run-while-calls t) (run-while-at t) run-while.Post run-while-Inv-loop run-while-μ-loop
-run-while-same-length-8 t c =
-    c .before .before .before .before .before .before .before .before .before .run-action .kept .1 .1 .1 .1 .1 .0 ∙ c .before .before .before .before .before .before .before .before .before .before .before .before .before .before .before .before .before .loop .inv .0 .buffer
-
-pub run-while-same-length-9 : (t : ℕ) → run-while-lts.Need-same-length-9 (run-while-calls t) (run-while-at t) run-while.Post run-while-Inv-loop run-while-μ-loop
-run-while-same-length-9 t c =
-    c .before .before .before .again .kept .1 .1 .0 ∙ c .before .before .before .before .before .before .before .before .before .run-action .kept .1 .1 .1 .1 .1 .1 .0 ∙ c .before .before .before .before .before .before .before .before .before .before .before .before .before .before .before .before .before .loop .inv .1
+    omega (arith, c .before .run-action .ensures .run, c .before .before .before .before .before .before .before .before .before .before .loop .inv .1, c .before .before .before .before .before .before .before .before .before .before .before .pre .1 .1)
 
 pub run-while-returns-3 : (t : ℕ) → run-while-lts.Need-returns-3 (run-while-calls t) (run-while-at t) run-while.Post run-while-Inv-loop run-while-μ-loop
 run-while-returns-3 t c =
-    while-stops (c .before .before .before .before .before .before .before .before .before .before .before .before .before .before .before .before .before .loop .inv .0) (c .before .before .before .before .before .before .before .before .before .before .before .before .before .before .before .test .ensures) (c .before .before .before .before .before .before .before .before .before .before .before .before .before .enum-told3 .given .1) _ _ (c .before .before .before .again .ensures) (c .before .before .before .before .before .before .before .before .before .run-action .ensures) (out-over _ (c .if1 .taken))
+    record {
+      result = while-stops (c .before .before .before .before .before .before .before .before .before .before .before .before .loop .inv .0) (c .before .before .before .before .before .before .before .before .before .test-on .ensures .0) (c .before .before .before .before .before .before .before .enum-told3 .given .1) _ _ (c .before .again .ensures .0) (rw (c .before .before .before .before .before .before .before .before .before .test-on .ensures .1) at (c .before .before .before .run-action .ensures .result)) (out-over _ (c .if1 .taken));
+      run = c .before .again .ensures .1 ∙ c .before .before .before .run-action .ensures .run ∙ c .before .before .before .before .before .before .before .before .before .before .before .before .loop .inv .1;
+      store = c .before .before .before .run-action .ensures .store ∙ ap length (c .before .before .before .before .before .before .before .before .before .test-on .ensures .1) ∙ c .before .before .before .before .before .before .before .before .before .before .before .before .loop .inv .0 .store;
+      values = c .before .before .before .run-action .ensures .values ∙ c .before .before .before .before .before .before .before .before .before .before .before .before .loop .inv .0 .buffer;
+    }
 
 pub run-while-loop-less : (t : ℕ) → run-while-lts.Need-loop-less (run-while-calls t) (run-while-at t) run-while.Post run-while-Inv-loop run-while-μ-loop
 run-while-loop-less t c =
-    while-less (c .before .before .before .before .before .before .before .before .before .before .before .before .before .before .before .before .before .loop .inv .0) (c .before .before .before .before .before .before .before .before .before .before .before .before .before .before .before .test .ensures) (c .before .before .before .before .before .before .before .before .before .before .before .before .before .enum-told3 .given .1) _ _ (c .before .before .before .again .ensures) (c .before .before .before .before .before .before .before .before .before .run-action .ensures) (sym (ends-at _ (c .if1 .left)))
+    while-less (c .before .before .before .before .before .before .before .before .before .before .before .before .loop .inv .0) (c .before .before .before .before .before .before .before .before .before .test-on .ensures .0) (c .before .before .before .before .before .before .before .enum-told3 .given .1) _ _ (c .before .again .ensures .0) (rw (c .before .before .before .before .before .before .before .before .before .test-on .ensures .1) at (c .before .before .before .run-action .ensures .result)) (sym (ends-at _ (c .if1 .left)))
 
 pub run-while-loop-again : (t : ℕ) → run-while-lts.Need-loop-again (run-while-calls t) (run-while-at t) run-while.Post run-while-Inv-loop run-while-μ-loop
 run-while-loop-again t c =
-    (while-more (c .before .before .before .before .before .before .before .before .before .before .before .before .before .before .before .before .before .loop .inv .0) (c .before .before .before .before .before .before .before .before .before .before .before .before .before .before .before .test .ensures) (c .before .before .before .before .before .before .before .before .before .before .before .before .before .enum-told3 .given .1) _ _ (c .before .before .before .again .ensures) (c .before .before .before .before .before .before .before .before .before .run-action .ensures) (sym (ends-at _ (c .if1 .left))) (c .before .before .before .before .before .before .before .before .before .run-action .kept .1 .1 .1 .0) (c .before .before .before .before .before .before .before .before .before .run-action .kept .1 .1 .1 .1 .1 .0), c .before .before .before .again .kept .1 .1 .0 ∙ c .before .before .before .before .before .before .before .before .before .run-action .kept .1 .1 .1 .1 .1 .1 .0 ∙ c .before .before .before .before .before .before .before .before .before .before .before .before .before .before .before .before .before .loop .inv .1)
+    (while-more (c .before .before .before .before .before .before .before .before .before .before .before .before .loop .inv .0) (c .before .before .before .before .before .before .before .before .before .test-on .ensures .0) (c .before .before .before .before .before .before .before .enum-told3 .given .1) _ _ (c .before .again .ensures .0) (rw (c .before .before .before .before .before .before .before .before .before .test-on .ensures .1) at (c .before .before .before .run-action .ensures .result)) (sym (ends-at _ (c .if1 .left))) (c .before .before .before .run-action .ensures .store ∙ ap length (c .before .before .before .before .before .before .before .before .before .test-on .ensures .1)) (c .before .before .before .run-action .ensures .values), c .before .again .ensures .1 ∙ c .before .before .before .run-action .ensures .run ∙ c .before .before .before .before .before .before .before .before .before .before .before .before .loop .inv .1)
 
 abbrev pub run-for-Inv-loop : run-for-lts.InvT-loop
 run-for-Inv-loop image rows r g a store₀ script values₀ run₀ v high store values run =
-    Fors image rows r g a script store₀ values₀ (runOf run₀) store values (runOf run) × (length run ≡ length run₀)
+    Fors (image .now) rows r g a (script .now) (store₀ .now) values₀ (runOf run₀) (store .now) values (runOf run) × (length run ≡ length run₀)
 
 abbrev pub run-for-μ-loop : run-for-lts.MeasureT-loop
 run-for-μ-loop image rows r g a store₀ script values₀ run₀ v high store values run =
@@ -121,7 +104,7 @@ run-for-μ-loop image rows r g a store₀ script values₀ run₀ v high store v
 
 pub run-for-row-requires : (t : ℕ) → run-for-lts.Need-row-requires (run-for-calls t) (run-for-at t) run-for.Post run-for-Inv-loop run-for-μ-loop
 run-for-row-requires t c κs =
-    for-range (c .before .before .before .pre .1 .0)
+    for-range (c .before .pre .1 .0)
 
 pub run-for-signed-requires : (t : ℕ) → run-for-lts.Need-signed-requires (run-for-calls t) (run-for-at t) run-for.Post run-for-Inv-loop run-for-μ-loop
 run-for-signed-requires t c κs =
@@ -131,21 +114,25 @@ pub run-for-signed-requires-2 : (t : ℕ) → run-for-lts.Need-signed-requires-2
 run-for-signed-requires-2 t c κs =
     search needs
 
-pub run-for-cast-t17 : (t : ℕ) → run-for-lts.Need-cast-t17 (run-for-calls t) (run-for-at t) run-for.Post run-for-Inv-loop run-for-μ-loop
-run-for-cast-t17 t c =
+pub run-for-cast-t18 : (t : ℕ) → run-for-lts.Need-cast-t18 (run-for-calls t) (run-for-at t) run-for.Post run-for-Inv-loop run-for-μ-loop
+run-for-cast-t18 t c =
     search needs
 
-pub run-for-mul-t18 : (t : ℕ) → run-for-lts.Need-mul-t18 (run-for-calls t) (run-for-at t) run-for.Post run-for-Inv-loop run-for-μ-loop
-run-for-mul-t18 t c =
+pub run-for-mul-t19 : (t : ℕ) → run-for-lts.Need-mul-t19 (run-for-calls t) (run-for-at t) run-for.Post run-for-Inv-loop run-for-μ-loop
+run-for-mul-t19 t c =
     search needs
 
-pub run-for-slice-set-from-store : (t : ℕ) → run-for-lts.Need-slice-set-from-store (run-for-calls t) (run-for-at t) run-for.Post run-for-Inv-loop run-for-μ-loop
-run-for-slice-set-from-store t c =
-    for-slot (c .before .before .before .before .before .before .pre .1 .0) (c .before .before .row .ensures)
+pub run-for-index-1-store : (t : ℕ) → run-for-lts.Need-index-1-store (run-for-calls t) (run-for-at t) run-for.Post run-for-Inv-loop run-for-μ-loop
+run-for-index-1-store t c =
+    for-slot (c .before .before .before .before .pre .1 .0) (c .before .before .row .ensures)
 
 pub run-for-loop-holds : (t : ℕ) → run-for-lts.Need-loop-holds (run-for-calls t) (run-for-at t) run-for.Post run-for-Inv-loop run-for-μ-loop
 run-for-loop-holds t c =
-    (for-first (c .before .before .before .before .before .before .pre .1 .0) (c .before .before .before .before .before .before .args .script .now) (runOf (c .before .before .before .before .before .before .args .run .now)) (c .before .before .row .ensures) (held-is (c .signed2 .result) (c .signed2 .ok) ∙ c .signed2 .ensures), refl)
+    (for-first (c .before .before .before .before .pre .1 .0) (c .before .before .before .before .args .script .now .now) (runOf (c .before .before .before .before .args .run .now)) (c .before .before .row .ensures) (held-is (c .signed2 .result) (c .signed2 .ok) ∙ c .signed2 .ensures), refl)
+
+pub run-for-slice-aggregate-at-most : (t : ℕ) → run-for-lts.Need-slice-aggregate-at-most (run-for-calls t) (run-for-at t) run-for.Post run-for-Inv-loop run-for-μ-loop
+run-for-slice-aggregate-at-most t c =
+    search needs
 
 pub run-for-at-most-requires : (t : ℕ) → run-for-lts.Need-at-most-requires (run-for-calls t) (run-for-at t) run-for.Post run-for-Inv-loop run-for-μ-loop
 run-for-at-most-requires t c κs =
@@ -155,21 +142,14 @@ pub run-for-enum-told : (t : ℕ) → run-for-lts.Need-enum-told (run-for-calls 
 run-for-enum-told t c =
     search needs
 
-pub run-for-same-length : (t : ℕ) → run-for-lts.Need-same-length (run-for-calls t) (run-for-at t) run-for.Post run-for-Inv-loop run-for-μ-loop
-run-for-same-length t c =
-    c .before .before .before .before .loop .inv .0 .store ∙ simp length-set
-
-pub run-for-same-length-2 : (t : ℕ) → run-for-lts.Need-same-length-2 (run-for-calls t) (run-for-at t) run-for.Post run-for-Inv-loop run-for-μ-loop
-run-for-same-length-2 t c =
-    c .before .before .before .before .loop .inv .0 .buffer
-
-pub run-for-same-length-3 : (t : ℕ) → run-for-lts.Need-same-length-3 (run-for-calls t) (run-for-at t) run-for.Post run-for-Inv-loop run-for-μ-loop
-run-for-same-length-3 t c =
-    c .before .before .before .before .loop .inv .1
-
 pub run-for-returns : (t : ℕ) → run-for-lts.Need-returns (run-for-calls t) (run-for-at t) run-for.Post run-for-Inv-loop run-for-μ-loop
 run-for-returns t c =
-    for-is (c .before .before .before .before .before .before .before .before .before .before .before .pre .1 .0) _ (runOf (c .before .before .before .before .before .before .before .before .before .before .before .args .run .now)) (c .before .before .before .before .before .before .before .row .ensures) (held-is (c .before .before .before .before .before .signed2 .result) (c .before .before .before .before .before .signed2 .ok) ∙ c .before .before .before .before .before .signed2 .ensures) (for-ends (c .before .before .before .before .loop .inv .0) (c .before .before .before .before .before .before .before .row .ensures) (held-is (c .before .before .before .before .before .before .signed .result) (c .before .before .before .before .before .before .signed .ok) ∙ c .before .before .before .before .before .before .signed .ensures) (c .before .before .at-most .ensures) (c .enum-told .given .1) (told-as (runOf (c .before .before .before .before .loop .run)) out-ends))
+    record {
+      result = for-is (c .before .before .before .before .before .before .before .before .before .pre .1 .0) _ (runOf (c .before .before .before .before .before .before .before .before .before .args .run .now)) (c .before .before .before .before .before .before .before .row .ensures) (held-is (c .before .before .before .before .before .signed2 .result) (c .before .before .before .before .before .signed2 .ok) ∙ c .before .before .before .before .before .signed2 .ensures) (rw (c .before .before .at-most .ensures .1) (for-ends (c .before .before .before .before .loop .inv .0) (c .before .before .before .before .before .before .before .row .ensures) (held-is (c .before .before .before .before .before .before .signed .result) (c .before .before .before .before .before .before .signed .ok) ∙ c .before .before .before .before .before .before .signed .ensures) (c .before .before .at-most .ensures .0) (c .enum-told .given .1) (told-as (runOf (c .before .before .before .before .loop .run)) out-ends)));
+      run = c .before .before .before .before .loop .inv .1;
+      store = ap length (c .before .before .at-most .ensures .1) ∙ c .before .before .before .before .loop .inv .0 .store ∙ simp length-set;
+      values = c .before .before .before .before .loop .inv .0 .buffer;
+    }
 
 pub run-for-enum-told-2 : (t : ℕ) → run-for-lts.Need-enum-told-2 (run-for-calls t) (run-for-at t) run-for.Post run-for-Inv-loop run-for-μ-loop
 run-for-enum-told-2 t c =
@@ -179,21 +159,14 @@ pub run-for-stopped-requires : (t : ℕ) → run-for-lts.Need-stopped-requires (
 run-for-stopped-requires t c κs =
     omega arith
 
-pub run-for-same-length-4 : (t : ℕ) → run-for-lts.Need-same-length-4 (run-for-calls t) (run-for-at t) run-for.Post run-for-Inv-loop run-for-μ-loop
-run-for-same-length-4 t c =
-    c .before .before .before .before .before .loop .inv .0 .store ∙ simp length-set
-
-pub run-for-same-length-5 : (t : ℕ) → run-for-lts.Need-same-length-5 (run-for-calls t) (run-for-at t) run-for.Post run-for-Inv-loop run-for-μ-loop
-run-for-same-length-5 t c =
-    c .before .before .before .before .before .loop .inv .0 .buffer
-
-pub run-for-same-length-6 : (t : ℕ) → run-for-lts.Need-same-length-6 (run-for-calls t) (run-for-at t) run-for.Post run-for-Inv-loop run-for-μ-loop
-run-for-same-length-6 t c =
-    c .before .before .before .before .before .loop .inv .1
-
 pub run-for-returns-2 : (t : ℕ) → run-for-lts.Need-returns-2 (run-for-calls t) (run-for-at t) run-for.Post run-for-Inv-loop run-for-μ-loop
 run-for-returns-2 t c =
-    for-is (c .before .before .before .before .before .before .before .before .before .before .before .before .pre .1 .0) _ (runOf (c .before .before .before .before .before .before .before .before .before .before .before .before .args .run .now)) (c .before .before .before .before .before .before .before .before .row .ensures) (held-is (c .before .before .before .before .before .before .signed2 .result) (c .before .before .before .before .before .before .signed2 .ok) ∙ c .before .before .before .before .before .before .signed2 .ensures) (for-unsure (c .before .before .before .before .before .loop .inv .0) (c .before .before .before .before .before .before .before .before .row .ensures) (held-is (c .before .before .before .before .before .before .before .signed .result) (c .before .before .before .before .before .before .before .signed .ok) ∙ c .before .before .before .before .before .before .before .signed .ensures) (c .before .before .before .at-most .ensures) (c .before .enum-told2 .given .1) (told-as (runOf (c .before .before .before .before .before .loop .run)) (c .stopped .ensures .outcome)))
+    record {
+      result = for-is (c .before .before .before .before .before .before .before .before .before .before .pre .1 .0) _ (runOf (c .before .before .before .before .before .before .before .before .before .before .args .run .now)) (c .before .before .before .before .before .before .before .before .row .ensures) (held-is (c .before .before .before .before .before .before .signed2 .result) (c .before .before .before .before .before .before .signed2 .ok) ∙ c .before .before .before .before .before .before .signed2 .ensures) (rw (c .before .before .before .at-most .ensures .1) (for-unsure (c .before .before .before .before .before .loop .inv .0) (c .before .before .before .before .before .before .before .before .row .ensures) (held-is (c .before .before .before .before .before .before .before .signed .result) (c .before .before .before .before .before .before .before .signed .ok) ∙ c .before .before .before .before .before .before .before .signed .ensures) (c .before .before .before .at-most .ensures .0) (c .before .enum-told2 .given .1) (told-as (runOf (c .before .before .before .before .before .loop .run)) (c .stopped .ensures .outcome))));
+      run = c .before .before .before .before .before .loop .inv .1;
+      store = ap length (c .before .before .before .at-most .ensures .1) ∙ c .before .before .before .before .before .loop .inv .0 .store ∙ simp length-set;
+      values = c .before .before .before .before .before .loop .inv .0 .buffer;
+    }
 
 pub run-for-enum-told-3 : (t : ℕ) → run-for-lts.Need-enum-told-3 (run-for-calls t) (run-for-at t) run-for.Post run-for-Inv-loop run-for-μ-loop
 run-for-enum-told-3 t c =
@@ -201,37 +174,33 @@ run-for-enum-told-3 t c =
 
 pub run-for-run-action-requires : (t : ℕ) → run-for-lts.Need-run-action-requires (run-for-calls t) (run-for-at t) run-for.Post run-for-Inv-loop run-for-μ-loop
 run-for-run-action-requires t c κs =
-    (omega (arith, c .before .before .before .before .before .before .before .before .before .before .before .before .before .before .pre .0, c .before .before .before .before .before .before .before .loop .inv .0 .less), (c .before .before .before .before .before .before .before .loop .inv .0 .going .body, omega (arith, c .before .before .before .before .before .before .before .loop .inv .1, c .before .before .before .before .before .before .before .before .before .before .before .before .before .before .pre .1 .1)))
+    (omega (arith, c .before .before .before .before .before .before .before .before .before .before .before .before .pre .0, c .before .before .before .before .before .before .before .loop .inv .0 .less), (rw (c .before .before .before .before .before .at-most .ensures .1) (c .before .before .before .before .before .before .before .loop .inv .0 .going .body), omega (arith, c .before .before .before .before .before .before .before .loop .inv .1, c .before .before .before .before .before .before .before .before .before .before .before .before .pre .1 .1)))
+
+pub run-for-slice-aggregate-onward : (t : ℕ) → run-for-lts.Need-slice-aggregate-onward (run-for-calls t) (run-for-at t) run-for.Post run-for-Inv-loop run-for-μ-loop
+run-for-slice-aggregate-onward t c =
+    search needs
 
 pub run-for-onward-requires : (t : ℕ) → run-for-lts.Need-onward-requires (run-for-calls t) (run-for-at t) run-for.Post run-for-Inv-loop run-for-μ-loop
 run-for-onward-requires t c κs =
-    slot-of (c .before .before .before .before .before .before .before .before .before .before .before .before .before .loop .inv .0) (c .before .before .before .before .before .before .before .before .before .before .before .before .before .before .before .before .row .ensures) _ _ (ranOf (c .before .before .before .before .before .run-action .result) (c .before .before .before .before .before .run-action .last .1 .1 .1 .1 .1 .1 .0)) (c .before .before .before .before .before .run-action .ensures) (c .before .before .before .before .before .run-action .kept .1 .1 .1 .0)
+    slot-of (c .before .before .before .before .before .before .before .before .before .loop .inv .0) (c .before .before .before .before .before .before .before .before .before .before .before .before .row .ensures) _ _ (ranOf (c .before .run-action .result) (c .before .run-action .last .1 .1 .1 .1 .1 .1 .0)) (rw (c .before .before .before .before .before .before .before .at-most .ensures .1) at (c .before .run-action .ensures .result)) (c .before .run-action .ensures .store ∙ ap length (c .before .before .before .before .before .before .before .at-most .ensures .1))
 
 pub run-for-again-requires : (t : ℕ) → run-for-lts.Need-again-requires (run-for-calls t) (run-for-at t) run-for.Post run-for-Inv-loop run-for-μ-loop
 run-for-again-requires t c κs =
-    omega (arith, c .before .before .before .before .before .before .before .before .run-action .kept .1 .1 .1 .1 .1 .1 .0, c .before .before .before .before .before .before .before .before .before .before .before .before .before .before .before .before .loop .inv .1, c .before .before .before .before .before .before .before .before .before .before .before .before .before .before .before .before .before .before .before .before .before .before .before .pre .1 .1)
-
-pub run-for-same-length-7 : (t : ℕ) → run-for-lts.Need-same-length-7 (run-for-calls t) (run-for-at t) run-for.Post run-for-Inv-loop run-for-μ-loop
-run-for-same-length-7 t c =
-    c .before .before .before .before .before .before .onward .kept .1 .1 .1 .0 ∙ c .before .before .before .before .before .before .before .before .before .before .before .before .run-action .kept .1 .1 .1 .0 ∙ c .before .before .before .before .before .before .before .before .before .before .before .before .before .before .before .before .before .before .before .before .loop .inv .0 .store ∙ simp length-set
-
-pub run-for-same-length-8 : (t : ℕ) → run-for-lts.Need-same-length-8 (run-for-calls t) (run-for-at t) run-for.Post run-for-Inv-loop run-for-μ-loop
-run-for-same-length-8 t c =
-    c .before .before .before .before .before .before .before .before .before .before .before .before .run-action .kept .1 .1 .1 .1 .1 .0 ∙ c .before .before .before .before .before .before .before .before .before .before .before .before .before .before .before .before .before .before .before .before .loop .inv .0 .buffer
-
-pub run-for-same-length-9 : (t : ℕ) → run-for-lts.Need-same-length-9 (run-for-calls t) (run-for-at t) run-for.Post run-for-Inv-loop run-for-μ-loop
-run-for-same-length-9 t c =
-    c .before .before .before .again .kept .1 .1 .0 ∙ c .before .before .before .before .before .before .before .before .before .before .before .before .run-action .kept .1 .1 .1 .1 .1 .1 .0 ∙ c .before .before .before .before .before .before .before .before .before .before .before .before .before .before .before .before .before .before .before .before .loop .inv .1
+    omega (arith, c .before .before .before .run-action .ensures .run, c .before .before .before .before .before .before .before .before .before .before .before .loop .inv .1, c .before .before .before .before .before .before .before .before .before .before .before .before .before .before .before .before .pre .1 .1)
 
 pub run-for-returns-3 : (t : ℕ) → run-for-lts.Need-returns-3 (run-for-calls t) (run-for-at t) run-for.Post run-for-Inv-loop run-for-μ-loop
 run-for-returns-3 t c =
-    for-is (c .before .before .before .before .before .before .before .before .before .before .before .before .before .before .before .before .before .before .before .before .before .before .before .before .before .before .before .pre .1 .0) _ (runOf (c .before .before .before .before .before .before .before .before .before .before .before .before .before .before .before .before .before .before .before .before .before .before .before .before .before .before .before .args .run .now)) (c .before .before .before .before .before .before .before .before .before .before .before .before .before .before .before .before .before .before .before .before .before .before .before .row .ensures) (held-is (c .before .before .before .before .before .before .before .before .before .before .before .before .before .before .before .before .before .before .before .before .before .signed2 .result) (c .before .before .before .before .before .before .before .before .before .before .before .before .before .before .before .before .before .before .before .before .before .signed2 .ok) ∙ c .before .before .before .before .before .before .before .before .before .before .before .before .before .before .before .before .before .before .before .before .before .signed2 .ensures)
-    (for-stops (c .before .before .before .before .before .before .before .before .before .before .before .before .before .before .before .before .before .before .before .before .loop .inv .0) (c .before .before .before .before .before .before .before .before .before .before .before .before .before .before .before .before .before .before .before .before .before .before .before .row .ensures) _ _ (ranOf (c .before .before .before .before .before .before .before .before .before .before .before .before .run-action .result) (c .before .before .before .before .before .before .before .before .before .before .before .before .run-action .last .1 .1 .1 .1 .1 .1 .0)) (c .before .before .before .before .before .before .before .before .before .before .before .before .run-action .ensures) (held-is (c .before .before .before .before .before .before .before .before .before .before .before .before .before .before .before .before .before .before .before .before .before .before .signed .result) (c .before .before .before .before .before .before .before .before .before .before .before .before .before .before .before .before .before .before .before .before .before .before .signed .ok) ∙ c .before .before .before .before .before .before .before .before .before .before .before .before .before .before .before .before .before .before .before .before .before .before .signed .ensures) (c .before .before .before .before .before .before .before .before .before .before .before .before .before .before .before .before .before .before .at-most .ensures) (c .before .before .before .before .before .before .before .before .before .before .before .before .before .before .before .before .enum-told3 .given .1) _ (c .before .before .before .before .before .before .onward .ensures) (c .before .before .before .again .ensures) (out-over _ (c .if1 .taken)))
+    record {
+      result = for-is (c .before .before .before .before .before .before .before .before .before .before .before .before .before .before .before .before .before .before .pre .1 .0) _ (runOf (c .before .before .before .before .before .before .before .before .before .before .before .before .before .before .before .before .before .before .args .run .now)) (c .before .before .before .before .before .before .before .before .before .before .before .before .before .before .before .before .row .ensures) (held-is (c .before .before .before .before .before .before .before .before .before .before .before .before .before .before .signed2 .result) (c .before .before .before .before .before .before .before .before .before .before .before .before .before .before .signed2 .ok) ∙ c .before .before .before .before .before .before .before .before .before .before .before .before .before .before .signed2 .ensures) (for-stops (c .before .before .before .before .before .before .before .before .before .before .before .before .before .loop .inv .0) (c .before .before .before .before .before .before .before .before .before .before .before .before .before .before .before .before .row .ensures) _ _ (ranOf (c .before .before .before .before .before .run-action .result) (c .before .before .before .before .before .run-action .last .1 .1 .1 .1 .1 .1 .0)) (rw (c .before .before .before .before .before .before .before .before .before .before .before .at-most .ensures .1) at (c .before .before .before .before .before .run-action .ensures .result)) (held-is (c .before .before .before .before .before .before .before .before .before .before .before .before .before .before .before .signed .result) (c .before .before .before .before .before .before .before .before .before .before .before .before .before .before .before .signed .ok) ∙ c .before .before .before .before .before .before .before .before .before .before .before .before .before .before .before .signed .ensures) (c .before .before .before .before .before .before .before .before .before .before .before .at-most .ensures .0) (c .before .before .before .before .before .before .before .before .before .enum-told3 .given .1) _ (c .before .before .before .onward .ensures) (c .before .again .ensures .0) (out-over _ (c .if1 .taken)));
+      run = c .before .again .ensures .1 ∙ c .before .before .before .before .before .run-action .ensures .run ∙ c .before .before .before .before .before .before .before .before .before .before .before .before .before .loop .inv .1;
+      store = c .before .before .before .onward .kept .1 .1 .1 .0 ∙ c .before .before .before .before .before .run-action .ensures .store ∙ ap length (c .before .before .before .before .before .before .before .before .before .before .before .at-most .ensures .1) ∙ c .before .before .before .before .before .before .before .before .before .before .before .before .before .loop .inv .0 .store ∙ simp length-set;
+      values = c .before .before .before .before .before .run-action .ensures .values ∙ c .before .before .before .before .before .before .before .before .before .before .before .before .before .loop .inv .0 .buffer;
+    }
 
 pub run-for-loop-less : (t : ℕ) → run-for-lts.Need-loop-less (run-for-calls t) (run-for-at t) run-for.Post run-for-Inv-loop run-for-μ-loop
 run-for-loop-less t c =
-    for-less (c .before .before .before .before .before .before .before .before .before .before .before .before .before .before .before .before .before .before .before .before .loop .inv .0) (c .before .before .before .before .before .before .before .before .before .before .before .before .before .before .before .before .before .before .before .before .before .before .before .row .ensures) _ _ (ranOf (c .before .before .before .before .before .before .before .before .before .before .before .before .run-action .result) (c .before .before .before .before .before .before .before .before .before .before .before .before .run-action .last .1 .1 .1 .1 .1 .1 .0)) (c .before .before .before .before .before .before .before .before .before .before .before .before .run-action .ensures) (held-is (c .before .before .before .before .before .before .before .before .before .before .before .before .before .before .before .before .before .before .before .before .before .before .signed .result) (c .before .before .before .before .before .before .before .before .before .before .before .before .before .before .before .before .before .before .before .before .before .before .signed .ok) ∙ c .before .before .before .before .before .before .before .before .before .before .before .before .before .before .before .before .before .before .before .before .before .before .signed .ensures) (c .before .before .before .before .before .before .before .before .before .before .before .before .before .before .before .before .before .before .at-most .ensures) (c .before .before .before .before .before .before .before .before .before .before .before .before .before .before .before .before .enum-told3 .given .1) _ (c .before .before .before .before .before .before .onward .ensures) (c .before .before .before .again .ensures) (sym (ends-at _ (c .if1 .left)))
+    for-less (c .before .before .before .before .before .before .before .before .before .before .before .before .before .loop .inv .0) (c .before .before .before .before .before .before .before .before .before .before .before .before .before .before .before .before .row .ensures) _ _ (ranOf (c .before .before .before .before .before .run-action .result) (c .before .before .before .before .before .run-action .last .1 .1 .1 .1 .1 .1 .0)) (rw (c .before .before .before .before .before .before .before .before .before .before .before .at-most .ensures .1) at (c .before .before .before .before .before .run-action .ensures .result)) (held-is (c .before .before .before .before .before .before .before .before .before .before .before .before .before .before .before .signed .result) (c .before .before .before .before .before .before .before .before .before .before .before .before .before .before .before .signed .ok) ∙ c .before .before .before .before .before .before .before .before .before .before .before .before .before .before .before .signed .ensures) (c .before .before .before .before .before .before .before .before .before .before .before .at-most .ensures .0) (c .before .before .before .before .before .before .before .before .before .enum-told3 .given .1) _ (c .before .before .before .onward .ensures) (c .before .again .ensures .0) (sym (ends-at _ (c .if1 .left)))
 
 pub run-for-loop-again : (t : ℕ) → run-for-lts.Need-loop-again (run-for-calls t) (run-for-at t) run-for.Post run-for-Inv-loop run-for-μ-loop
 run-for-loop-again t c =
-    (for-more (c .before .before .before .before .before .before .before .before .before .before .before .before .before .before .before .before .before .before .before .before .loop .inv .0) (c .before .before .before .before .before .before .before .before .before .before .before .before .before .before .before .before .before .before .before .before .before .before .before .row .ensures) _ _ (ranOf (c .before .before .before .before .before .before .before .before .before .before .before .before .run-action .result) (c .before .before .before .before .before .before .before .before .before .before .before .before .run-action .last .1 .1 .1 .1 .1 .1 .0)) (c .before .before .before .before .before .before .before .before .before .before .before .before .run-action .ensures) (held-is (c .before .before .before .before .before .before .before .before .before .before .before .before .before .before .before .before .before .before .before .before .before .before .signed .result) (c .before .before .before .before .before .before .before .before .before .before .before .before .before .before .before .before .before .before .before .before .before .before .signed .ok) ∙ c .before .before .before .before .before .before .before .before .before .before .before .before .before .before .before .before .before .before .before .before .before .before .signed .ensures) (c .before .before .before .before .before .before .before .before .before .before .before .before .before .before .before .before .before .before .at-most .ensures) (c .before .before .before .before .before .before .before .before .before .before .before .before .before .before .before .before .enum-told3 .given .1) _ (c .before .before .before .before .before .before .onward .ensures) (c .before .before .before .again .ensures) (sym (ends-at _ (c .if1 .left))) (c .before .before .before .before .before .before .onward .kept .1 .1 .1 .0 ∙ c .before .before .before .before .before .before .before .before .before .before .before .before .run-action .kept .1 .1 .1 .0) (c .before .before .before .before .before .before .before .before .before .before .before .before .run-action .kept .1 .1 .1 .1 .1 .0), c .before .before .before .again .kept .1 .1 .0 ∙ c .before .before .before .before .before .before .before .before .before .before .before .before .run-action .kept .1 .1 .1 .1 .1 .1 .0 ∙ c .before .before .before .before .before .before .before .before .before .before .before .before .before .before .before .before .before .before .before .before .loop .inv .1)
+    (for-more (c .before .before .before .before .before .before .before .before .before .before .before .before .before .loop .inv .0) (c .before .before .before .before .before .before .before .before .before .before .before .before .before .before .before .before .row .ensures) _ _ (ranOf (c .before .before .before .before .before .run-action .result) (c .before .before .before .before .before .run-action .last .1 .1 .1 .1 .1 .1 .0)) (rw (c .before .before .before .before .before .before .before .before .before .before .before .at-most .ensures .1) at (c .before .before .before .before .before .run-action .ensures .result)) (held-is (c .before .before .before .before .before .before .before .before .before .before .before .before .before .before .before .signed .result) (c .before .before .before .before .before .before .before .before .before .before .before .before .before .before .before .signed .ok) ∙ c .before .before .before .before .before .before .before .before .before .before .before .before .before .before .before .signed .ensures) (c .before .before .before .before .before .before .before .before .before .before .before .at-most .ensures .0) (c .before .before .before .before .before .before .before .before .before .enum-told3 .given .1) _ (c .before .before .before .onward .ensures) (c .before .again .ensures .0) (sym (ends-at _ (c .if1 .left))) (c .before .before .before .onward .kept .1 .1 .1 .0 ∙ c .before .before .before .before .before .run-action .ensures .store ∙ ap length (c .before .before .before .before .before .before .before .before .before .before .before .at-most .ensures .1)) (c .before .before .before .before .before .run-action .ensures .values), c .before .again .ensures .1 ∙ c .before .before .before .before .before .run-action .ensures .run ∙ c .before .before .before .before .before .before .before .before .before .before .before .before .before .loop .inv .1)
