@@ -20,10 +20,10 @@ use Rattle.image.proofs.Laid.{laid, states-count}
 use Rattle.demands.proofs.Greatest.{Leads, reached-all, reached-in, at-rest, one-largest}
 use Rattle.demands.proofs.Solved.{sets-length, sets-largest}
 use Rattle.demands.proofs.Reaching.{reached-sound, reached-found}
-use Rattle.sets.specs.declared.flow.Went.{Went}
 use Rattle.sets.specs.Flow.{flow, Walked, Ready}
 use Rattle.sets.specs.States.{setAt, Beginning, Above, Given, Lowest, Marked, Settled, Judged, EachState, Found}
 use Rattle.masks.proofs.ParameterMask.{parameters-in}
+use Rattle.sets.proofs.Rest.{moved-alone}
 use Rattle.sets.proofs.Leading.{leads-of, lead-inside, lead-is}
 use Rattle.sets.proofs.Relaxing.{near, by-state, state-small, state-ready, relaxed, fine-as}
 use Rattle.sets.proofs.Turning.{Turn, due-as, turn-as}
@@ -102,20 +102,20 @@ module _ {s : List ℕ} {i : Image} {uses defs leads : List ℕ} {top : ℕ} (g 
     pub due-ready : Ready s i uses defs row top was
     due-ready = state-ready g (d .stage) k row due-inside e
 
-    module _ (fits : getD leads row 0 < 2 ^ 64) {now' : List ℕ} {v : Went}
-        (w : Walked (flow top (getD was k 0) (actionAt (tablesOf s) row)) was now' v) where
+    module _ (fits : getD leads row 0 < 2 ^ 64) {now' : List ℕ} {mv : ℕ} {ok : Bool} {n : ℕ}
+        (w : Walked (flow top (getD was k 0) (actionAt (tablesOf s) row)) was now' 0 mv true ok n) where
       abbrev dueThen : ℕ
-      dueThen = due-as k (getD leads row 0) (v .moved) due walked (m .small) (d .dueFits) (d .walkedFits) fits
+      dueThen = due-as k (getD leads row 0) mv due walked (m .small) (d .dueFits) (d .walkedFits) fits
 
-      turns : Turn k (getD leads row 0) (v .moved) due walked dueThen (bitOr walked (1 * 2 ^ k % 2 ^ 64))
-      turns = turn-as k (getD leads row 0) (v .moved) due walked (m .small) (d .dueFits) (d .walkedFits) fits (m .here)
+      turns : Turn k (getD leads row 0) mv due walked dueThen (bitOr walked (1 * 2 ^ k % 2 ^ 64))
+      turns = turn-as k (getD leads row 0) mv due walked (m .small) (d .dueFits) (d .walkedFits) fits (m .here)
 
       pub walk-less : remaining now' dueThen (bitOr walked (1 * 2 ^ k % 2 ^ 64)) < remaining was due walked
-      walk-less = visiting-less d turns (lead-is (g .leading) k row due-state e) (w .change)
+      walk-less = visiting-less d turns (lead-is (g .leading) k row due-state e) (moved-alone (w .moves))
 
-      pub walk-on : {wrong' : ℕ} → Marked k (v .fine) wrong wrong' → Visiting (tablesOf s) now' dueThen (bitOr walked (1 * 2 ^ k % 2 ^ 64)) wrong'
+      pub walk-on : {wrong' : ℕ} → Marked k ok wrong wrong' → Visiting (tablesOf s) now' dueThen (bitOr walked (1 * 2 ^ k % 2 ^ 64)) wrong'
       walk-on j =
-          visiting-on d turns (lead-is (g .leading) k row due-state e) (w .change) (relaxed g (d .stage) k row due-inside e w) j
+          visiting-on d turns (lead-is (g .leading) k row due-state e) (moved-alone (w .moves)) (relaxed g (d .stage) k row due-inside e w) j
           (fine-as g (d .stage) k row due-inside e w)
 
 -- ---- the end: nothing is due

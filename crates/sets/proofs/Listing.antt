@@ -1,5 +1,5 @@
 -- A list of branches or of arms, followed in a loop. Assumes nothing.
-use mathlib.Core.{Path._≡_, Path.refl, Path.sym, Path.ap, Path._∙_, Path.subst, Logic._⊎_, Logic.inl, Logic.inr, Logic.⊎-elim, Bool.Bool, Bool.true, Bool._&&_, List.List}
+use mathlib.Core.{Path._≡_, Path.refl, Path.sym, Path.ap, Path._∙_, Path.subst, Logic._⊎_, Logic.inl, Logic.inr, Logic.⊎-elim, Bool.Bool, Bool.true, List.List}
 use Prim.Native.Nat.{ℕ, _+_, _%_, _≤_, _<_}
 use native.Mathlib.Omega.{arith}
 use lib.{Bits.bitAnd, Bits.bitOr, ListN.length}
@@ -16,10 +16,9 @@ use Rattle.model.proofs.Rows.{Named, Row, Formed, fieldsFor, lined, is-kind}
 use Rattle.model.proofs.Decode.{listAt-none, listAt-step}
 use Rattle.model.proofs.Masks.{sub-refl, sub-trans, meet-left, meet-right}
 use Rattle.masks.specs.Masks.{branchesAt, armsAt}
-use Rattle.sets.specs.declared.flow.Went.{Went}
 use Rattle.sets.specs.Flow.{Flow, flow, flowBranches, flowArms, Walked, maskAt, Ready, ReadyList}
 use Rattle.sets.proofs.Tests.{meet-assoc, meet-sub, sub-meets}
-use Rattle.sets.proofs.Rest.{went, sets-after, Rest, Splits, rest-all, rest-on, rest-none}
+use Rattle.sets.proofs.Rest.{sets-after, Rest, Splits, rest-all, rest-on, rest-none}
 use Rattle.sets.proofs.Rows.{base-of, kind-inside, row-as, def-pattern, in-defs}
 
 -- ---- the next row of a list
@@ -64,22 +63,22 @@ abbrev pub into : ℕ → Flow → Flow
 into e g = record { ends = meet e (g .ends); fine = g .fine; jumps = g .jumps }
 
 -- of the list from row r on, the list from row here on is left; F says what a list is to give
-pub record Listing (k : Kind) (F : ℕ → Flow) (s : List ℕ) (i : Image) (uses defs : List ℕ) (r top : ℕ) (was : List ℕ) (here e mv : ℕ) (ok : Bool) (l : List ℕ) : Type 0 where
+pub record Listing (k : Kind) (F : ℕ → Flow) (s : List ℕ) (i : Image) (uses defs : List ℕ) (r top : ℕ) (was l : List ℕ) (mv mv' : ℕ) (ok ok' : Bool) (here e : ℕ) : Type 0 where
   pub ready : ReadyList k s i uses defs here top l
-  pub rest : Rest (F r) (into e (F here)) was l mv ok
+  pub rest : Rest (F r) (into e (F here)) was l mv mv' ok ok'
   pub inside : Sub e top
   pub low : (here + 1) % 65536 ≤ (r + 1) % 65536
 
 module _ {k : Kind} {s : List ℕ} {i : Image} {uses defs : List ℕ} {r top : ℕ} {l : List ℕ} (F : ℕ → Flow) where
-  listing-all : Sub (F r .ends) top → ReadyList k s i uses defs r top l → Listing k F s i uses defs r top l r top 0 true l
-  listing-all h d = record {
+  listing-all : {mv : ℕ} {ok : Bool} → Sub (F r .ends) top → ReadyList k s i uses defs r top l → Listing k F s i uses defs r top l l mv mv ok ok r top
+  listing-all {mv} {ok} h d = record {
     ready = d;
-    rest = subst (λ n. Rest (F r) (record { ends = n; fine = F r .fine; jumps = F r .jumps }) l l 0 true) (sym (sub-meets top (F r .ends) h)) (rest-all (F r) l);
+    rest = subst (λ n. Rest (F r) (record { ends = n; fine = F r .fine; jumps = F r .jumps }) l l mv mv ok ok) (sym (sub-meets top (F r .ends) h)) (rest-all (F r) l mv ok);
     inside = sub-refl top;
     low = omega arith;
   }
 
-  module _ {was : List ℕ} {here e mv : ℕ} {ok : Bool} (d : Listing k F s i uses defs r top was here e mv ok l) where
+  module _ {was : List ℕ} {mv mv' : ℕ} {ok ok' : Bool} {here e : ℕ} (d : Listing k F s i uses defs r top was l mv mv' ok ok' here e) where
     -- a row of the list
     pub here-kind : (here ≡ none → ⊥) → isKind (tablesOf s) k here ≡ true
     here-kind f = ⊎-elim (λ p. absurd (f p)) (λ p. p) (d .ready .first)
@@ -94,18 +93,18 @@ module _ {k : Kind} {s : List ℕ} {i : Image} {uses defs : List ℕ} {r top : �
         ⊎-elim (λ t. omega arith) (λ t. omega (arith, t .below)) p
 
     -- one row on
-    listing-on : {h : Flow} {n : ℕ} {now' : List ℕ} {v : Went} → numberOfKind k < 10 → (here ≡ none → ⊥) → (n ≡ none) ⊎ Named (tablesOf s) here k n
-        → Splits (into e (F here)) h (into (meet e (h .ends)) (F n)) → Walked h l now' v
-        → Listing k F s i uses defs r top was n (meet e (v .ends)) (bitOr mv (v .moved)) (ok && v .fine) now'
-    listing-on {h} {n} {now'} {v} b f p q w = record {
+    listing-on : {h : Flow} {n : ℕ} {now' : List ℕ} {mv'' : ℕ} {ok'' : Bool} {v : ℕ} → numberOfKind k < 10 → (here ≡ none → ⊥) → (n ≡ none) ⊎ Named (tablesOf s) here k n
+        → Splits (into e (F here)) h (into (meet e (h .ends)) (F n)) → Walked h l now' mv' mv'' ok' ok'' v
+        → Listing k F s i uses defs r top was now' mv mv'' ok ok'' n (meet e v)
+    listing-on {v = v} b f p q w = record {
       ready = record { lent = d .ready .lent; sets = sets-after (d .ready .sets) w; first = ⊎-elim (λ t. inl t) (λ t. inr (t .kind)) p };
       rest = rw (w .ends) (rest-on (d .rest) q w);
-      inside = sub-trans _ e _ (meet-left e (v .ends)) (d .inside);
+      inside = sub-trans _ e _ (meet-left e v) (d .inside);
       low = ⊎-elim (λ t. omega arith) (λ t. omega (arith, t .below, here-low b f)) p;
     }
 
     -- the list's end
-    listing-last : here ≡ none → F none .ends ≡ top → F none .fine ≡ true → ((q : ℕ) → F none .jumps q ≡ top) → Walked (F r) was l (went e mv ok)
+    listing-last : here ≡ none → F none .ends ≡ top → F none .fine ≡ true → ((q : ℕ) → F none .jumps q ≡ top) → Walked (F r) was l mv mv' ok ok' e
     listing-last z a b c =
         rest-none (d .rest) (d .ready .sets) (sym (ap (λ n. meet e (F n .ends)) z ∙ ap (meet e) a ∙ meet-sub e top (d .inside))) (ap (λ n. F n .fine) z ∙ b)
         (λ q. ap (λ n. F n .jumps q) z ∙ c q)
@@ -121,12 +120,12 @@ splits-branch top m e bs rest a z =
     subst (λ (b : Branches). Splits (into e (flowBranches top m b)) (flow top m a) (into (meet e (ends top m a)) (flowBranches top m rest))) (sym z)
     (record { ends = meet-assoc e (ends top m a) (endsBranches top m rest); fine = refl; jumps = λ q. refl })
 
-pub branches-all : {s : List ℕ} {i : Image} {uses defs : List ℕ} {r top : ℕ} {l : List ℕ} (m : ℕ) → ReadyList branch s i uses defs r top l
-    → Listing branch (branching s top m) s i uses defs r top l r top 0 true l
+pub branches-all : {s : List ℕ} {i : Image} {uses defs : List ℕ} {r top : ℕ} {l : List ℕ} {mv : ℕ} {ok : Bool} (m : ℕ) → ReadyList branch s i uses defs r top l
+    → Listing branch (branching s top m) s i uses defs r top l l mv mv ok ok r top
 branches-all {s} {r = r} {top = top} m d = listing-all (branching s top m) (branches-in top m (branchesAt (tablesOf s) r)) d
 
-module _ {s : List ℕ} {i : Image} {uses defs : List ℕ} {r top : ℕ} (m : ℕ) {was : List ℕ} {here e mv : ℕ} {ok : Bool} {l : List ℕ}
-    (d : Listing branch (branching s top m) s i uses defs r top was here e mv ok l) where
+module _ {s : List ℕ} {i : Image} {uses defs : List ℕ} {r top : ℕ} (m : ℕ) {was l : List ℕ} {mv mv' : ℕ} {ok ok' : Bool} {here e : ℕ}
+    (d : Listing branch (branching s top m) s i uses defs r top was l mv mv' ok ok' here e) where
   module _ {w : Fields} (reads : w ≡ fieldsOf (tablesOf s) here) (f : here ≡ none → ⊥) where
     branch-kind : isKind (tablesOf s) branch here ≡ true
     branch-kind = here-kind (branching s top m) d f
@@ -143,15 +142,15 @@ module _ {s : List ℕ} {i : Image} {uses defs : List ℕ} {r top : ℕ} (m : �
     pub branch-less : (w .b + 1) % 65536 < (here + 1) % 65536
     branch-less = next-less (branching s top m) d (omega arith) f (branch-row .b)
 
-    pub branches-on : {now' : List ℕ} {v : Went} → Walked (flow top m (actionAt (tablesOf s) (w .a))) l now' v
-        → Listing branch (branching s top m) s i uses defs r top was (w .b) (bitAnd e (v .ends)) (bitOr mv (v .moved)) (ok && v .fine) now'
+    pub branches-on : {now' : List ℕ} {mv'' : ℕ} {ok'' : Bool} {v : ℕ} → Walked (flow top m (actionAt (tablesOf s) (w .a))) l now' mv' mv'' ok' ok'' v
+        → Listing branch (branching s top m) s i uses defs r top was now' mv mv'' ok ok'' (w .b) (bitAnd e v)
     unfolding meet
     branches-on p =
         let x = tablesOf s in
         listing-on (branching s top m) d (omega arith) f (branch-row .b)
         (splits-branch top m e (branchesAt x here) (branchesAt x (w .b)) (actionAt x (w .a)) (branches-step x (base-of (d .ready .lent) .ok) here w reads f branch-kind)) p
 
-  pub branches-last : here ≡ none → Walked (flowBranches top m (branchesAt (tablesOf s) r)) was l (went e mv ok)
+  pub branches-last : here ≡ none → Walked (flowBranches top m (branchesAt (tablesOf s) r)) was l mv mv' ok ok' e
   unfolding branchesOf endsBranches fineBranches jumpsBranches
   branches-last z =
       let x = tablesOf s in
@@ -170,12 +169,12 @@ splits-arm top m e arms rest p a z =
     subst (λ (b : Arms). Splits (into e (flowArms top m b)) (flow top k a) (into (meet e (ends top k a)) (flowArms top m rest))) (sym z)
     (record { ends = meet-assoc e (ends top k a) (endsArms top m rest); fine = refl; jumps = λ q. refl })
 
-pub arms-all : {s : List ℕ} {i : Image} {uses defs : List ℕ} {r top : ℕ} {l : List ℕ} (m : ℕ) → ReadyList arm s i uses defs r top l
-    → Listing arm (arming s top m) s i uses defs r top l r top 0 true l
+pub arms-all : {s : List ℕ} {i : Image} {uses defs : List ℕ} {r top : ℕ} {l : List ℕ} {mv : ℕ} {ok : Bool} (m : ℕ) → ReadyList arm s i uses defs r top l
+    → Listing arm (arming s top m) s i uses defs r top l l mv mv ok ok r top
 arms-all {s} {r = r} {top = top} m d = listing-all (arming s top m) (arms-in top m (armsAt (tablesOf s) r)) d
 
-module _ {s : List ℕ} {i : Image} {uses defs : List ℕ} {r top : ℕ} (m : ℕ) {was : List ℕ} {here e mv : ℕ} {ok : Bool} {l : List ℕ}
-    (d : Listing arm (arming s top m) s i uses defs r top was here e mv ok l) where
+module _ {s : List ℕ} {i : Image} {uses defs : List ℕ} {r top : ℕ} (m : ℕ) {was l : List ℕ} {mv mv' : ℕ} {ok ok' : Bool} {here e : ℕ}
+    (d : Listing arm (arming s top m) s i uses defs r top was l mv mv' ok ok' here e) where
   module _ {w : Fields} (reads : w ≡ fieldsOf (tablesOf s) here) (f : here ≡ none → ⊥) where
     arm-kind : isKind (tablesOf s) arm here ≡ true
     arm-kind = here-kind (arming s top m) d f
@@ -195,17 +194,18 @@ module _ {s : List ℕ} {i : Image} {uses defs : List ℕ} {r top : ℕ} (m : �
     pub arm-less : (w .c + 1) % 65536 < (here + 1) % 65536
     arm-less = next-less (arming s top m) d (omega arith) f (arm-row .c)
 
-    pub arms-on : (t : ℕ) {now' : List ℕ} {v : Went} → t ≡ maskAt defs (w .a) → Walked (flow top (bitOr m t) (actionAt (tablesOf s) (w .b))) l now' v
-        → Listing arm (arming s top m) s i uses defs r top was (w .c) (bitAnd e (v .ends)) (bitOr mv (v .moved)) (ok && v .fine) now'
+    pub arms-on : (t : ℕ) {now' : List ℕ} {mv'' : ℕ} {ok'' : Bool} {v : ℕ} → t ≡ maskAt defs (w .a)
+        → Walked (flow top (bitOr m t) (actionAt (tablesOf s) (w .b))) l now' mv' mv'' ok' ok'' v
+        → Listing arm (arming s top m) s i uses defs r top was now' mv mv'' ok ok'' (w .c) (bitAnd e v)
     unfolding meet join
-    arms-on t {now'} {v} z p =
+    arms-on t {now'} {mv''} {ok''} {v} z p =
         let x = tablesOf s in
         let k : bitOr m t ≡ join m (defOfPat (patternAt x (w .a))) = ap (join m) (z ∙ def-pattern (base-of (d .ready .lent)) (w .a) (arm-row .a .kind)) in
         listing-on (arming s top m) d (omega arith) f (arm-row .c)
         (splits-arm top m e (armsAt x here) (armsAt x (w .c)) (patternAt x (w .a)) (actionAt x (w .b)) (arms-step x (base-of (d .ready .lent) .ok) here w reads f arm-kind))
-        (subst (λ n. Walked (flow top n (actionAt x (w .b))) l now' v) k p)
+        (subst (λ n. Walked (flow top n (actionAt x (w .b))) l now' mv' mv'' ok' ok'' v) k p)
 
-  pub arms-last : here ≡ none → Walked (flowArms top m (armsAt (tablesOf s) r)) was l (went e mv ok)
+  pub arms-last : here ≡ none → Walked (flowArms top m (armsAt (tablesOf s) r)) was l mv mv' ok ok' e
   unfolding armsOf endsArms fineArms jumpsArms
   arms-last z =
       let x = tablesOf s in

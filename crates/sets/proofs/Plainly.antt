@@ -1,5 +1,5 @@
 -- An action without parts that doesn't jump: its masks give Figure 7's sets, one law a code. Assumes nothing.
-use mathlib.Core.{Path._≡_, Path.refl, Path.sym, Path.ap, Path.ap₂, Path._∙_, Logic._⊎_, Bool.Bool, Bool.true, List.List}
+use mathlib.Core.{Path._≡_, Path.refl, Path.sym, Path.ap, Path.ap₂, Path._∙_, Path.subst, Logic._⊎_, Bool.Bool, Bool.true, Bool._&&_, List.List}
 use Prim.Native.Nat.{ℕ, _-_, _^_, _<_}
 use native.Mathlib.Omega.{arith}
 use lib.{Bits.bitAnd, Bits.bitOr, ListN.length}
@@ -13,20 +13,23 @@ use Rattle.model.specs.Decode.{growAction, actionAt, conditionAt, offersAt, get
 use Rattle.model.specs.Binding.{useOfExp}
 use Rattle.model.specs.Sets.{ends, endsAct, fine, fineAct, jumps, jumpsAct}
 use Rattle.model.proofs.Masks.{and-not}
-use Rattle.sets.specs.declared.flow.Went.{Went}
-use Rattle.sets.specs.Flow.{maskAt, stayed, Plain}
-use Rattle.sets.proofs.Tests.{inside-all}
+use Rattle.sets.specs.Flow.{maskAt, Plain}
+use Rattle.sets.proofs.Tests.{and-true, inside-all}
 use Rattle.sets.proofs.Rows.{named-list, Base, action-row, action-is, null-is, use-condition, use-gets, def-gets, def-ofTypes, def-items, use-offers, def-offers, in-uses, in-defs, some-uses, some-defs}
 
-plain-as : {x : Tables} {r m : ℕ} (a : Act) (v : Went) → actionAt x r ≡ at r a → ((top : ℕ) → v .ends ≡ endsAct top m a)
-    → ((top : ℕ) → v .fine ≡ fineAct top m a) → ((top q : ℕ) → jumpsAct q top m a ≡ top) → v .moved ≡ 0 → Plain x r m v
+plain-as : {x : Tables} {r m : ℕ} (a : Act) {ok f : Bool} {n : ℕ} → actionAt x r ≡ at r a → ((top : ℕ) → n ≡ endsAct top m a)
+    → ((top : ℕ) → f ≡ fineAct top m a) → ((top q : ℕ) → jumpsAct q top m a ≡ top) → Plain x r m ok (ok && f) n
 unfolding ends fine jumps
-plain-as {x} {r} {m} a v e f g h k = record {
-  ends = λ top. f top ∙ sym (ap (ends top m) e);
-  fine = λ top. g top ∙ sym (ap (fine top m) e);
+plain-as {m = m} a {ok} e k g h = record {
+  ends = λ top. k top ∙ sym (ap (ends top m) e);
+  fine = λ top. ap (λ t. ok && t) (g top ∙ sym (ap (fine top m) e));
   jumps = λ top q. ap (jumps q top m) e ∙ h top q;
-  moved = k;
 }
+
+-- nothing is read
+plain-unread : {x : Tables} {r m : ℕ} (a : Act) {ok : Bool} {n : ℕ} → actionAt x r ≡ at r a → ((top : ℕ) → n ≡ endsAct top m a)
+    → ((top : ℕ) → true ≡ fineAct top m a) → ((top q : ℕ) → jumpsAct q top m a ≡ top) → Plain x r m ok ok n
+plain-unread {x} {r} {m} a {ok} {n} e k g h = subst (λ t. Plain x r m ok t n) (and-true ok) (plain-as a e k g h)
 
 module _ {x : Tables} {uses defs : List ℕ} (b : Base x uses defs) (r : ℕ) {w : Fields} (reads : w ≡ fieldsOf x r) where
   -- where the masks are
@@ -44,38 +47,38 @@ module _ {x : Tables} {uses defs : List ℕ} (b : Base x uses defs) (r : ℕ) {w
       let q = named-list (action-row x (b .ok) r w reads isCommunicate c .b) in
       (some-uses b offer (omega arith) q, some-defs b offer (omega arith) q)
 
-  module _ (m d u : ℕ) (f : Bool) where
-    pub do-assign : w .code ≡ 49 → d ≡ maskAt defs (w .a) → u ≡ maskAt uses (w .a) → f ≡ inside u m → Plain x r m (stayed (bitOr m d) f)
+  module _ (m d u : ℕ) (f : Bool) {ok : Bool} where
+    pub do-assign : w .code ≡ 49 → d ≡ maskAt defs (w .a) → u ≡ maskAt uses (w .a) → f ≡ inside u m → Plain x r m ok (ok && f) (bitOr m d)
     unfolding growAction endsAct fineAct jumpsAct join
     do-assign c e g h =
         let k = action-row x (b .ok) r w reads isAssign c .a .0 .kind in
-        plain-as (assign (getsAt x (w .a))) _ (action-is x (b .ok) r w reads isAssign c) (λ top. ap (join m) (e ∙ def-gets b (w .a) k))
-        (λ top. h ∙ ap (λ n. inside n m) (g ∙ use-gets b (w .a) k) ∙ inside-all (λ i. useOfExp (i .e)) m (getsAt x (w .a))) (λ top q. refl) refl
+        plain-as (assign (getsAt x (w .a))) (action-is x (b .ok) r w reads isAssign c) (λ top. ap (join m) (e ∙ def-gets b (w .a) k))
+        (λ top. h ∙ ap (λ n. inside n m) (g ∙ use-gets b (w .a) k) ∙ inside-all (λ i. useOfExp (i .e)) m (getsAt x (w .a))) (λ top q. refl)
 
-    pub do-choose : w .code ≡ 50 → d ≡ maskAt defs (w .a) → u ≡ maskAt uses (w .b) → f ≡ inside u (bitOr m d) → Plain x r m (stayed (bitOr m d) f)
+    pub do-choose : w .code ≡ 50 → d ≡ maskAt defs (w .a) → u ≡ maskAt uses (w .b) → f ≡ inside u (bitOr m d) → Plain x r m ok (ok && f) (bitOr m d)
     unfolding growAction endsAct fineAct jumpsAct join
     do-choose c e g h =
         let q = action-row x (b .ok) r w reads isChoose c in
         let after = ap (join m) (e ∙ def-ofTypes b (w .a) (q .a .0 .kind)) in
-        plain-as (choose (ofTypesAt x (w .a)) (conditionAt x (w .b))) _ (action-is x (b .ok) r w reads isChoose c) (λ top. after)
-        (λ top. h ∙ ap₂ inside (g ∙ use-condition b (w .b) (q .b)) after) (λ top q. refl) refl
+        plain-as (choose (ofTypesAt x (w .a)) (conditionAt x (w .b))) (action-is x (b .ok) r w reads isChoose c) (λ top. after)
+        (λ top. h ∙ ap₂ inside (g ∙ use-condition b (w .b) (q .b)) after) (λ top q. refl)
 
-    pub do-communicate : w .code ≡ 52 → d ≡ maskAt defs (w .b) → u ≡ maskAt uses (w .b) → f ≡ inside u (bitOr m d) → Plain x r m (stayed (bitOr m d) f)
+    pub do-communicate : w .code ≡ 52 → d ≡ maskAt defs (w .b) → u ≡ maskAt uses (w .b) → f ≡ inside u (bitOr m d) → Plain x r m ok (ok && f) (bitOr m d)
     unfolding growAction endsAct fineAct jumpsAct join
     do-communicate c e g h =
         let q = named-list (action-row x (b .ok) r w reads isCommunicate c .b) in
         let after = ap (join m) (e ∙ def-offers b (w .b) q) in
-        plain-as (communicate (gate (w .a)) (offersAt x (w .b))) _ (action-is x (b .ok) r w reads isCommunicate c) (λ top. after)
-        (λ top. h ∙ ap₂ inside (g ∙ use-offers b (w .b) q) after) (λ top q. refl) refl
+        plain-as (communicate (gate (w .a)) (offersAt x (w .b))) (action-is x (b .ok) r w reads isCommunicate c) (λ top. after)
+        (λ top. h ∙ ap₂ inside (g ∙ use-offers b (w .b) q) after) (λ top q. refl)
 
-  pub do-reset : (m d : ℕ) → m < 2 ^ 64 → d < 2 ^ 64 → w .code ≡ 51 → d ≡ maskAt defs (w .a) → Plain x r m (stayed (bitAnd m (2 ^ 64 - 1 - d)) true)
+  pub do-reset : (m d : ℕ) {ok : Bool} → m < 2 ^ 64 → d < 2 ^ 64 → w .code ≡ 51 → d ≡ maskAt defs (w .a) → Plain x r m ok ok (bitAnd m (2 ^ 64 - 1 - d))
   unfolding growAction endsAct fineAct jumpsAct
   do-reset m d l k c e =
-      plain-as (reset (variablesAt x (w .a))) _ (action-is x (b .ok) r w reads isReset c)
+      plain-unread (reset (variablesAt x (w .a))) (action-is x (b .ok) r w reads isReset c)
       (λ top. and-not 64 m d l k ∙ ap (without m) (e ∙ def-items b (w .a) (action-row x (b .ok) r w reads isReset c .a .0 .kind)))
-      (λ top. refl) (λ top q. refl) refl
+      (λ top. refl) (λ top q. refl)
 
-  pub do-null : (m : ℕ) → isKind x action r ≡ true → fieldsOf x r .code < 53 → (w .code ≡ 49 → ⊥) → (w .code ≡ 50 → ⊥) → (w .code ≡ 51 → ⊥) → (w .code ≡ 52 → ⊥)
-      → Plain x r m (stayed m true)
+  pub do-null : (m : ℕ) {ok : Bool} → isKind x action r ≡ true → fieldsOf x r .code < 53 → (w .code ≡ 49 → ⊥) → (w .code ≡ 50 → ⊥) → (w .code ≡ 51 → ⊥) → (w .code ≡ 52 → ⊥)
+      → Plain x r m ok ok m
   unfolding endsAct fineAct jumpsAct
-  do-null m k l p q s t = plain-as null _ (null-is x (b .ok) r w reads k (omega (arith, ap (λ (v : Fields). v .code) reads)) p q s t) (λ top. refl) (λ top. refl) (λ top q. refl) refl
+  do-null m k l p q s t = plain-unread null (null-is x (b .ok) r w reads k (omega (arith, ap (λ (v : Fields). v .code) reads)) p q s t) (λ top. refl) (λ top. refl) (λ top q. refl)

@@ -1,5 +1,5 @@
 -- A walk of a state's action, in place: it keeps the sets above all that fit. Assumes nothing.
-use mathlib.Core.{Path._≡_, Path.refl, Path.sym, Path.ap, Path.ap₂, Path._∙_, List.List, List.[], List._∷_}
+use mathlib.Core.{Path._≡_, Path.refl, Path.sym, Path.ap, Path.ap₂, Path._∙_, Bool.Bool, Bool.true, List.List, List.[], List._∷_}
 use Prim.Native.Nat.{ℕ, zero, suc, _+_, _≤_, _<_}
 use native.Mathlib.{Omega.arith, Decide.decLt, Decide.ℕ-discrete}
 use lib.{ListN.length, ListN.getD, ListN.List·getD-eq-default}
@@ -13,7 +13,6 @@ use Rattle.model.proofs.Masks.{sub-refl, sub-trans, meet-left, meet-right}
 use Rattle.image.proofs.Laid.{states-count}
 use Rattle.demands.proofs.Targets.{jumps-away}
 use Rattle.demands.proofs.Greatest.{relax-above}
-use Rattle.sets.specs.declared.flow.Went.{Went}
 use Rattle.sets.specs.Flow.{flow, Moved, Walked, Ready}
 use Rattle.sets.specs.States.{setAt, Above, Given}
 use Rattle.sets.proofs.Leading.{state-kind}
@@ -101,7 +100,8 @@ module _ {s : List ℕ} {i : Image} {uses defs leads : List ℕ} {top : ℕ} (g 
         kind = rw e (state-kind (g .leading .rooted) t (state-small t b));
       }
 
-      pub relaxed : {now' : List ℕ} {r : Went} → Walked (flow top (getD l t 0) (actionAt (tablesOf s) row)) l now' r → Relaxed (tablesOf s) t l now'
+      pub relaxed : {now' : List ℕ} {mv mv' : ℕ} {ok ok' : Bool} {n : ℕ} → Walked (flow top (getD l t 0) (actionAt (tablesOf s) row)) l now' mv mv' ok ok' n
+          → Relaxed (tablesOf s) t l now'
       relaxed {now'} w = record {
         size = w .size;
         each = λ q h.
@@ -111,8 +111,8 @@ module _ {s : List ℕ} {i : Image} {uses defs leads : List ℕ} {top : ℕ} (g 
             ∙ ap₂ (λ m n. jumps q (topOf x) m (actionAt x n)) (sym (near x l t b)) e);
       }
 
-      pub fine-as : {now' : List ℕ} {r : Went} → Walked (flow top (getD l t 0) (actionAt (tablesOf s) row)) l now' r
-          → r .fine ≡ fine (topOf (tablesOf s)) (setAt (tablesOf s) l t) (act (tablesOf s) t)
+      pub fine-as : {now' : List ℕ} {mv mv' : ℕ} {ok : Bool} {n : ℕ} → Walked (flow top (getD l t 0) (actionAt (tablesOf s) row)) l now' mv mv' true ok n
+          → ok ≡ fine (topOf (tablesOf s)) (setAt (tablesOf s) l t) (act (tablesOf s) t)
       fine-as w =
           let x = tablesOf s in
           w .fine ∙ ap (λ n. fine n (getD l t 0) (actionAt x row)) (g .all)

@@ -14,15 +14,14 @@ use Rattle.model.specs.Rows.{expression, range, action, branch, arm, isTo, isTh
 use Rattle.model.specs.Trees.{Exp, Action, at, Act, to, then, select, case, while, for, Branches, Arms}
 use Rattle.model.specs.Decode.{growAction, expressionAt, actionAt, forOf}
 use Rattle.model.specs.Binding.{useOfExp}
-use Rattle.model.specs.Sets.{loopSet, ends, endsAct, fine, fineAct, jumps, jumpsAct, useOfArms}
+use Rattle.model.specs.Sets.{loopSet, ends, endsAct, fine, fineAct, fineArms, jumps, jumpsAct, useOfArms}
 use Rattle.model.proofs.Rows.{Named}
 use Rattle.model.proofs.Masks.{bit-shift}
 use Rattle.image.proofs.Laid.{laid, states-count}
 use Rattle.masks.specs.Masks.{branchesAt, armsAt}
-use Rattle.sets.specs.declared.flow.Went.{Went}
-use Rattle.sets.specs.Flow.{Flow, flow, flowBranches, flowArms, Walked, Plain, maskAt, stayed, Sets, Ready, ReadyAs, Single, Loop, ReadyList, Jump, PlainRow}
-use Rattle.sets.proofs.Tests.{meet-sub, join-none, and-assoc, inside-none}
-use Rattle.sets.proofs.Rest.{went, not-moved, moved-set, sets-after, Rest, Splits, rest-all, rest-on, rest-last}
+use Rattle.sets.specs.Flow.{Flow, flow, flowBranches, flowArms, Walked, Plain, maskAt, Sets, Ready, ReadyAs, Single, Loop, ReadyList, Jump, PlainRow}
+use Rattle.sets.proofs.Tests.{meet-sub, join-none, and-assoc, and-loop, and-true, inside-none}
+use Rattle.sets.proofs.Rest.{no-moves, moves-set, sets-after, Rest, Splits, rest-all, rest-on, rest-last}
 use Rattle.sets.proofs.Rows.{named-list, Base, base-of, action-row, action-is, low-is, use-expression, def-expression, use-range, def-range, use-arms, in-uses, in-defs, some-uses, kind-inside, list-low}
 
 -- ---- an action by its tree
@@ -30,20 +29,25 @@ abbrev flowAct : ℕ → ℕ → Act → Flow
 flowAct top m a = record { ends = endsAct top m a; fine = fineAct top m a; jumps = λ q. jumpsAct q top m a }
 
 module _ (x : Tables) (r top m : ℕ) where
-  walked-as : {was now' : List ℕ} {v : Went} (a : Act) → actionAt x r ≡ at r a → Walked (flowAct top m a) was now' v
-      → Walked (flow top m (actionAt x r)) was now' v
+  walked-as : {was now' : List ℕ} {mv mv' : ℕ} {ok ok' : Bool} {n : ℕ} (a : Act) → actionAt x r ≡ at r a → Walked (flowAct top m a) was now' mv mv' ok ok' n
+      → Walked (flow top m (actionAt x r)) was now' mv mv' ok ok' n
   unfolding ends fine jumps
-  walked-as {was} {now'} {v} a e w = subst (λ (t : Action). Walked (flow top m t) was now' v) (sym e) w
+  walked-as {was} {now'} {mv} {mv'} {ok} {ok'} {n} a e w = subst (λ (t : Action). Walked (flow top m t) was now' mv mv' ok ok' n) (sym e) w
 
 -- nothing is carried
-pub do-plain : {x : Tables} {s : List ℕ} {r top m : ℕ} {l : List ℕ} {v : Went} → Sets s top l → Plain x r m v → Walked (flow top m (actionAt x r)) l l v
-do-plain {x} {s} {r} {top} {m} {l} {v} d p = record {
+pub do-plain : {x : Tables} {s : List ℕ} {r top m : ℕ} {l : List ℕ} {mv : ℕ} {ok ok' : Bool} {n : ℕ} → Sets s top l → Plain x r m ok ok' n
+    → Walked (flow top m (actionAt x r)) l l mv mv ok ok' n
+do-plain {top = top} {l = l} {mv = mv} d p = record {
   ends = p .ends top;
   fine = p .fine top;
   size = refl;
   met = λ q h. sym (ap (meet (getD l q 0)) (p .jumps top q) ∙ meet-sub (getD l q 0) top (d .inside q h));
-  change = rw (p .moved) (not-moved l);
+  moves = no-moves l mv;
 }
+
+-- no error is raised
+pub do-fine : {f : Flow} {was now' : List ℕ} {mv mv' : ℕ} {ok : Bool} {n : ℕ} → Walked f was now' mv mv' true true n → Walked f was now' mv mv' ok ok n
+do-fine {ok = ok} p = record { ends = p .ends; fine = sym (and-true ok) ∙ ap (λ t. ok && t) (p .fine); size = p .size; met = p .met; moves = p .moves }
 
 -- ---- a jump
 module _ (top m q : ℕ) where
@@ -57,24 +61,24 @@ module _ (top m q : ℕ) where
     met-to t k (no f) =
         rw (getD-set-other l q t n 0 f, jumps-to t false (ne-eqb q t (λ p. f (sym p)))) (sym (meet-sub (getD l t 0) top (d .inside t k)))
 
-    walked-still : n ≡ getD l q 0 → Walked (flowAct top m (to (state q))) l l (stayed top true)
+    walked-still : (mv : ℕ) → n ≡ getD l q 0 → Walked (flowAct top m (to (state q))) l l mv mv true true top
     unfolding endsAct fineAct
-    walked-still g = record {
+    walked-still mv g = record {
       ends = refl;
       fine = refl;
       size = refl;
       met = λ t k. ap (λ o. getD o t 0) (sym (ap (set l q) g ∙ set-getD l q 0)) ∙ met-to t k (ℕ-discrete t q);
-      change = not-moved l;
+      moves = no-moves l mv;
     }
 
-    walked-to : (n ≡ getD l q 0 → ⊥) → Walked (flowAct top m (to (state q))) l (set l q n) (went top (bit q) true)
+    walked-to : (mv : ℕ) → (n ≡ getD l q 0 → ⊥) → Walked (flowAct top m (to (state q))) l (set l q n) mv (join mv (bit q)) true true top
     unfolding endsAct fineAct
-    walked-to f = record {
+    walked-to mv f = record {
       ends = refl;
       fine = refl;
       size = length-set l q n;
       met = λ t k. met-to t k (ℕ-discrete t q);
-      change = moved-set l q n m h e f;
+      moves = moves-set l q n m mv h e f;
     }
 
 module _ {s : List ℕ} {i : Image} {r top : ℕ} {l : List ℕ} (j : Jump s i r top l) {w : Fields} (reads : w ≡ fieldsOf (tablesOf s) r) where
@@ -87,27 +91,29 @@ module _ {s : List ℕ} {i : Image} {r top : ℕ} {l : List ℕ} (j : Jump s i r
   pub jump-small : w .a < 64
   jump-small = let d = j .formed .located in omega (arith, jump-inside, j .sets .size, states-count d, laid d .statesMost)
 
-  module _ (m n : ℕ) (e : n ≡ meet (getD l (w .a) 0) m) where
-    jump-as : {now' : List ℕ} {v : Went} → Walked (flowAct top m (to (state (w .a)))) l now' v → Walked (flow top m (actionAt (tablesOf s) r)) l now' v
+  module _ (m n : ℕ) (e : n ≡ meet (getD l (w .a) 0) m) {mv : ℕ} where
+    jump-as : {now' : List ℕ} {mv' : ℕ} → Walked (flowAct top m (to (state (w .a)))) l now' mv mv' true true top
+        → Walked (flow top m (actionAt (tablesOf s) r)) l now' mv mv' true true top
     unfolding growAction
     jump-as = walked-as (tablesOf s) r top m (to (state (w .a))) (action-is (tablesOf s) (record { each = j .formed .rows }) r w reads isTo to-code)
 
-    pub still-jump : {v : Went} → v ≡ stayed top true → n ≡ getD l (w .a) 0 → Walked (flow top m (actionAt (tablesOf s) r)) l l v
-    still-jump z g = rw z (jump-as (walked-still top m (w .a) jump-inside (j .sets) e g))
+    pub still-jump : n ≡ getD l (w .a) 0 → Walked (flow top m (actionAt (tablesOf s) r)) l l mv mv true true top
+    still-jump g = jump-as (walked-still top m (w .a) jump-inside (j .sets) e mv g)
 
-    pub do-jump : (n ≡ getD l (w .a) 0 → ⊥) → Walked (flow top m (actionAt (tablesOf s) r)) l (set l (w .a) n) (went top (1 * 2 ^ w .a % 2 ^ 64) true)
-    do-jump f = rw (bit-shift (w .a) jump-small) (jump-as (walked-to top m (w .a) jump-inside (j .sets) e f))
+    pub do-jump : (n ≡ getD l (w .a) 0 → ⊥) → Walked (flow top m (actionAt (tablesOf s) r)) l (set l (w .a) n) mv (bitOr mv (1 * 2 ^ w .a % 2 ^ 64)) true true top
+    unfolding join
+    do-jump f = rw (bit-shift (w .a) jump-small) (jump-as (walked-to top m (w .a) jump-inside (j .sets) e mv f))
 
 -- ---- a sequence, followed in a loop
 -- of the walk of row r, entered with m, row here is left, to be entered with n
-pub record Walking (s : List ℕ) (i : Image) (uses defs : List ℕ) (r m top : ℕ) (was : List ℕ) (here n mv : ℕ) (ok : Bool) (l : List ℕ) : Type 0 where
+pub record Walking (s : List ℕ) (i : Image) (uses defs : List ℕ) (r m top : ℕ) (was l : List ℕ) (mv mv' : ℕ) (ok ok' : Bool) (here n : ℕ) : Type 0 where
   pub ready : Ready s i uses defs here top l
-  pub rest : Rest (flow top m (actionAt (tablesOf s) r)) (flow top n (actionAt (tablesOf s) here)) was l mv ok
+  pub rest : Rest (flow top m (actionAt (tablesOf s) r)) (flow top n (actionAt (tablesOf s) here)) was l mv mv' ok ok'
   pub low : here ≤ r
 
-pub walking-all : {s : List ℕ} {i : Image} {uses defs : List ℕ} {r top : ℕ} {l : List ℕ} (m : ℕ) → Ready s i uses defs r top l
-    → Walking s i uses defs r m top l r m 0 true l
-walking-all m d = record { ready = d; rest = rest-all _ _; low = omega arith }
+pub walking-all : {s : List ℕ} {i : Image} {uses defs : List ℕ} {r top : ℕ} {l : List ℕ} {mv : ℕ} {ok : Bool} (m : ℕ) → Ready s i uses defs r top l
+    → Walking s i uses defs r m top l l mv mv ok ok r m
+walking-all m d = record { ready = d; rest = rest-all _ _ _ _; low = omega arith }
 
 splits-then : (x : Tables) (r top m : ℕ) (a b : Action) → actionAt x r ≡ at r (then a b)
     → Splits (flow top m (actionAt x r)) (flow top m a) (flow top (ends top m a) b)
@@ -116,8 +122,8 @@ splits-then x r top m a b e =
     subst (λ (t : Action). Splits (flow top m t) (flow top m a) (flow top (ends top m a) b)) (sym e)
     (record { ends = refl; fine = refl; jumps = λ q. refl })
 
-module _ {s : List ℕ} {i : Image} {uses defs : List ℕ} {r m top : ℕ} {was : List ℕ} {here n mv : ℕ} {ok : Bool} {mid : List ℕ}
-    (d : Walking s i uses defs r m top was here n mv ok mid) where
+module _ {s : List ℕ} {i : Image} {uses defs : List ℕ} {r m top : ℕ} {was mid : List ℕ} {mv mv' : ℕ} {ok ok' : Bool} {here n : ℕ}
+    (d : Walking s i uses defs r m top was mid mv mv' ok ok' here n) where
   module _ {w : Fields} (reads : w ≡ fieldsOf (tablesOf s) here) (c : fieldsOf (tablesOf s) here .code ≡ 54) where
     then-code : w .code ≡ 54
     then-code = ap (λ (v : Fields). v .code) reads ∙ c
@@ -137,10 +143,10 @@ module _ {s : List ℕ} {i : Image} {uses defs : List ℕ} {r m top : ℕ} {was 
     pub second-low : w .b < here
     second-low = then-b .below
 
-    pub walking-on : {now' : List ℕ} {v : Went} → Walked (flow top n (actionAt (tablesOf s) (w .a))) mid now' v
-        → Walking s i uses defs r m top was (w .b) (v .ends) (bitOr mv (v .moved)) (ok && v .fine) now'
+    pub walking-on : {now' : List ℕ} {mv'' : ℕ} {ok'' : Bool} {k : ℕ} → Walked (flow top n (actionAt (tablesOf s) (w .a))) mid now' mv' mv'' ok' ok'' k
+        → Walking s i uses defs r m top was now' mv mv'' ok ok'' (w .b) k
     unfolding growAction
-    walking-on {now'} {v} p = record {
+    walking-on p = record {
       ready = record { lent = d .ready .lent; sets = sets-after (d .ready .sets) p; kind = then-b .kind };
       rest =
           let x = tablesOf s in
@@ -150,52 +156,61 @@ module _ {s : List ℕ} {i : Image} {uses defs : List ℕ} {r m top : ℕ} {was 
       low = omega (arith, d .low, then-b .below);
     }
 
-  pub walking-last : {now' : List ℕ} {v : Went} → Walked (flow top n (actionAt (tablesOf s) here)) mid now' v
-      → Walked (flow top m (actionAt (tablesOf s) r)) was now' (went (v .ends) (bitOr mv (v .moved)) (ok && v .fine))
+  pub walking-last : {now' : List ℕ} {mv'' : ℕ} {ok'' : Bool} {k : ℕ} → Walked (flow top n (actionAt (tablesOf s) here)) mid now' mv' mv'' ok' ok'' k
+      → Walked (flow top m (actionAt (tablesOf s) r)) was now' mv mv'' ok ok'' k
   walking-last p = rest-last (d .rest) p
 
 -- ---- a select, a case, a loop
-module _ (top m : ℕ) {was now' : List ℕ} {v : Went} where
-  walked-select : (bs : Branches) → Walked (flowBranches top m bs) was now' v → Walked (flowAct top m (select bs)) was now' v
+module _ (top m : ℕ) {was now' : List ℕ} {mv mv' : ℕ} {ok ok' : Bool} {n : ℕ} where
+  walked-select : (bs : Branches) → Walked (flowBranches top m bs) was now' mv mv' ok ok' n → Walked (flowAct top m (select bs)) was now' mv mv' ok ok' n
   unfolding endsAct fineAct jumpsAct
   walked-select bs p = p
 
-  walked-case : (e : Exp) (arms : Arms) (f : Bool) → f ≡ inside (join (useOfExp e) (useOfArms arms)) m → Walked (flowArms top m arms) was now' v
-      → Walked (flowAct top m (case e arms)) was now' (went (v .ends) (v .moved) (f && v .fine))
+  walked-case : (e : Exp) (arms : Arms) (f : Bool) → f ≡ inside (join (useOfExp e) (useOfArms arms)) m → Walked (flowArms top m arms) was now' mv mv' (ok && f) ok' n
+      → Walked (flowAct top m (case e arms)) was now' mv mv' ok ok' n
   unfolding endsAct fineAct jumpsAct
-  walked-case e arms f h p = record { ends = p .ends; fine = ap₂ _&&_ h (p .fine); size = p .size; met = p .met; change = p .change }
+  walked-case e arms f h p = record {
+    ends = p .ends;
+    fine = p .fine ∙ and-assoc ok f (fineArms top m arms) ∙ ap (λ t. ok && (t && fineArms top m arms)) h;
+    size = p .size;
+    met = p .met;
+    moves = p .moves;
+  }
 
 -- only this law opens `loopSet`
 kept : (m : ℕ) (f : ℕ → ℕ) → loopSet m f ≡ m
 unfolding loopSet
 kept m f = refl
 
-module _ (top m k : ℕ) {was now' : List ℕ} {v : Went} (a : Action) (f g : Bool) (p : Walked (flow top k a) was now' v) where
-  walked-while : (e : Exp) → k ≡ m → f ≡ inside (useOfExp e) k → g ≡ inside k (v .ends)
-      → Walked (flowAct top m (while e a)) was now' (went k (v .moved) ((f && v .fine) && g))
+module _ (top m k : ℕ) {was now' : List ℕ} {mv mv' : ℕ} {ok ok' : Bool} {n : ℕ} (a : Action) (f g : Bool) (p : Walked (flow top k a) was now' mv mv' ok ok' n) where
+  gathered : ((ok' && f) && g) ≡ (ok && (f && (fine top k a && g)))
+  gathered = ap (λ t. (t && f) && g) (p .fine) ∙ and-loop ok (fine top k a) f g
+
+  walked-while : (e : Exp) → k ≡ m → f ≡ inside (useOfExp e) k → g ≡ inside k n
+      → Walked (flowAct top m (while e a)) was now' mv mv' ok ((ok' && f) && g) k
   unfolding endsAct fineAct jumpsAct
   walked-while e z h j = record {
     ends = is;
-    fine = and-assoc f (v .fine) g ∙ ap₂ _&&_ h (ap₂ _&&_ (p .fine) (j ∙ ap (inside k) (p .ends)))
-        ∙ ap (λ n. inside (useOfExp e) n && (fine top n a && inside n (ends top n a))) is;
+    fine = gathered ∙ ap (λ t. ok && t) (ap₂ (λ b c. b && (fine top k a && c)) h (j ∙ ap (inside k) (p .ends))
+        ∙ ap (λ t. inside (useOfExp e) t && (fine top t a && inside t (ends top t a))) is);
     size = p .size;
     met = λ q l. p .met q l ∙ ap (λ n. meet (getD was q 0) (jumps q top n a)) is;
-    change = p .change;
+    moves = p .moves;
   }
     where
       is : k ≡ endsAct top m (while e a)
       is = z ∙ sym (kept m (λ n. ends top n a))
 
-  walked-for : (x : Variable) (low high : ℤ) → k ≡ join m (bit (x .0)) → f ≡ true → g ≡ inside k (join (v .ends) (bit (x .0)))
-      → Walked (flowAct top m (for x low high a)) was now' (went k (v .moved) ((f && v .fine) && g))
+  walked-for : (x : Variable) (low high : ℤ) → k ≡ join m (bit (x .0)) → f ≡ true → g ≡ inside k (join n (bit (x .0)))
+      → Walked (flowAct top m (for x low high a)) was now' mv mv' ok ((ok' && f) && g) k
   unfolding endsAct fineAct jumpsAct
   walked-for x low high z h j = record {
     ends = is;
-    fine = ap (λ b. (b && v .fine) && g) h ∙ ap₂ _&&_ (p .fine) (j ∙ ap (λ n. inside k (join n (bit (x .0)))) (p .ends))
-        ∙ ap (λ n. fine top n a && inside n (join (ends top n a) (bit (x .0)))) is;
+    fine = gathered ∙ ap (λ t. ok && t) (ap₂ (λ b c. b && (fine top k a && c)) h (j ∙ ap (λ t. inside k (join t (bit (x .0)))) (p .ends))
+        ∙ ap (λ t. fine top t a && inside t (join (ends top t a) (bit (x .0)))) is);
     size = p .size;
     met = λ q l. p .met q l ∙ ap (λ n. meet (getD was q 0) (jumps q top n a)) is;
-    change = p .change;
+    moves = p .moves;
   }
     where
       is : k ≡ endsAct top m (for x low high a)
@@ -227,11 +242,11 @@ module _ {s : List ℕ} {i : Image} {uses defs : List ℕ} {r top : ℕ} {l : Li
   pub body-low : w .b < r
   body-low = body .below
 
-  pub do-loop : (m d u : ℕ) (f g : Bool) {now' : List ℕ} {v : Went} → d ≡ maskAt defs (w .a) → u ≡ maskAt uses (w .a)
-      → Walked (flow top (bitOr m d) (actionAt (tablesOf s) (w .b))) l now' v → f ≡ inside u (bitOr m d) → g ≡ inside (bitOr m d) (bitOr (v .ends) d)
-      → Walked (flow top m (actionAt (tablesOf s) r)) l now' (went (bitOr m d) (v .moved) ((f && v .fine) && g))
+  pub do-loop : (m d u : ℕ) (f g : Bool) {now' : List ℕ} {mv mv' : ℕ} {ok ok' : Bool} {n : ℕ} → d ≡ maskAt defs (w .a) → u ≡ maskAt uses (w .a)
+      → Walked (flow top (bitOr m d) (actionAt (tablesOf s) (w .b))) l now' mv mv' ok ok' n → f ≡ inside u (bitOr m d) → g ≡ inside (bitOr m d) (bitOr n d)
+      → Walked (flow top m (actionAt (tablesOf s) r)) l now' mv mv' ok ((ok' && f) && g) (bitOr m d)
   unfolding growAction join
-  do-loop m d u f g {now'} {v} e h p y z = ⊎-elim whiles fors loop-code
+  do-loop m d u f g {now'} {mv} {mv'} {ok} {ok'} {n} e h p y z = ⊎-elim whiles fors loop-code
     where
       x : Tables
       x = tablesOf s
@@ -239,22 +254,22 @@ module _ {s : List ℕ} {i : Image} {uses defs : List ℕ} {r top : ℕ} {l : Li
       a : Action
       a = actionAt x (w .b)
 
-      whiles : w .code ≡ 59 → Walked (flow top m (actionAt x r)) l now' (went (bitOr m d) (v .moved) ((f && v .fine) && g))
+      whiles : w .code ≡ 59 → Walked (flow top m (actionAt x r)) l now' mv mv' ok ((ok' && f) && g) (bitOr m d)
       whiles c =
           let k = action-row x (bs .ok) r w reads isWhile c .a .kind in
-          let n : d ≡ 0 = e ∙ def-expression bs (w .a) k in
+          let none' : d ≡ 0 = e ∙ def-expression bs (w .a) k in
           walked-as x r top m (while (expressionAt x (w .a)) a) (action-is x (bs .ok) r w reads isWhile c)
-          (walked-while top m (bitOr m d) a f g p (expressionAt x (w .a)) (rw n (join-none m))
-          (y ∙ ap (λ t. inside t (bitOr m d)) (h ∙ use-expression bs (w .a) k)) (z ∙ ap (inside (bitOr m d)) (ap (join (v .ends)) n ∙ join-none (v .ends))))
+          (walked-while top m (bitOr m d) a f g p (expressionAt x (w .a)) (rw none' (join-none m))
+          (y ∙ ap (λ t. inside t (bitOr m d)) (h ∙ use-expression bs (w .a) k)) (z ∙ ap (inside (bitOr m d)) (ap (join n) none' ∙ join-none n)))
 
-      fors : w .code ≡ 60 → Walked (flow top m (actionAt x r)) l now' (went (bitOr m d) (v .moved) ((f && v .fine) && g))
+      fors : w .code ≡ 60 → Walked (flow top m (actionAt x r)) l now' mv mv' ok ((ok' && f) && g) (bitOr m d)
       fors c =
           let k = action-row x (bs .ok) r w reads isFor c .a .kind in
           let t = fieldsOf x (w .a) in
-          let n : d ≡ bit (t .a) = e ∙ def-range bs (w .a) k in
+          let one : d ≡ bit (t .a) = e ∙ def-range bs (w .a) k in
           walked-as x r top m (forOf t a) (action-is x (bs .ok) r w reads isFor c)
-          (walked-for top m (bitOr m d) a f g p (variable (t .a)) (signed half16 (t .b)) (signed half16 (t .c)) (ap (join m) n)
-          (y ∙ ap (λ q. inside q (bitOr m d)) (h ∙ use-range bs (w .a) k) ∙ inside-none (bitOr m d)) (z ∙ ap (λ q. inside (bitOr m d) (join (v .ends) q)) n))
+          (walked-for top m (bitOr m d) a f g p (variable (t .a)) (signed half16 (t .b)) (signed half16 (t .c)) (ap (join m) one)
+          (y ∙ ap (λ q. inside q (bitOr m d)) (h ∙ use-range bs (w .a) k) ∙ inside-none (bitOr m d)) (z ∙ ap (λ q. inside (bitOr m d) (join n q)) one))
 
 -- ---- an action that is no sequence
 module _ {s : List ℕ} {i : Image} {uses defs : List ℕ} {r top : ℕ} {l : List ℕ} {w : Fields} (j : ReadyAs Single s i uses defs r top l) (reads : w ≡ fieldsOf (tablesOf s) r) where
@@ -287,8 +302,8 @@ module _ {s : List ℕ} {i : Image} {uses defs : List ℕ} {r top : ℕ} {l : Li
     pub branches-low : (w .a + 1) % 65536 ≤ r
     branches-low = list-low base (kind-inside (tablesOf s) action r (omega arith) (j .ready .kind)) branches-named
 
-    pub do-select : (m : ℕ) {now' : List ℕ} {v : Went} → Walked (flowBranches top m (branchesAt (tablesOf s) (w .a))) l now' v
-        → Walked (flow top m (actionAt (tablesOf s) r)) l now' v
+    pub do-select : (m : ℕ) {now' : List ℕ} {mv mv' : ℕ} {ok ok' : Bool} {n : ℕ} → Walked (flowBranches top m (branchesAt (tablesOf s) (w .a))) l now' mv mv' ok ok' n
+        → Walked (flow top m (actionAt (tablesOf s) r)) l now' mv mv' ok ok' n
     unfolding growAction
     do-select m p =
         walked-as (tablesOf s) r top m (select (branchesAt (tablesOf s) (w .a))) (action-is (tablesOf s) (base .ok) r w reads isSelect c)
@@ -310,9 +325,9 @@ module _ {s : List ℕ} {i : Image} {uses defs : List ℕ} {r top : ℕ} {l : Li
       some-uses base arm (omega arith) arms-named,
     )
 
-    pub do-case : (m u t : ℕ) (f : Bool) {now' : List ℕ} {v : Went} → Walked (flowArms top m (armsAt (tablesOf s) (w .b))) l now' v
+    pub do-case : (m u t : ℕ) (f : Bool) {now' : List ℕ} {mv mv' : ℕ} {ok ok' : Bool} {n : ℕ} → Walked (flowArms top m (armsAt (tablesOf s) (w .b))) l now' mv mv' (ok && f) ok' n
         → u ≡ maskAt uses (w .a) → t ≡ maskAt uses (w .b) → f ≡ inside (bitOr u t) m
-        → Walked (flow top m (actionAt (tablesOf s) r)) l now' (went (v .ends) (v .moved) (f && v .fine))
+        → Walked (flow top m (actionAt (tablesOf s) r)) l now' mv mv' ok ok' n
     unfolding growAction join
     do-case m u t f p e g h =
         let x = tablesOf s in

@@ -20,6 +20,12 @@ sub-meets a b h = digit-ext _ _ (λ v. omega (arith, digit-meet a b v, h v))
 pub join-none : (a : ℕ) → join a 0 ≡ a
 join-none a = digit-ext _ _ (λ v. omega (arith, digit-join a 0 v, digit-zero v))
 
+pub none-join : (a : ℕ) → join 0 a ≡ a
+none-join a = digit-ext _ _ (λ v. omega (arith, digit-join 0 a v, digit-zero v))
+
+pub join-assoc : (a b c : ℕ) → join (join a b) c ≡ join a (join b c)
+join-assoc a b c = digit-ext _ _ (λ v. omega (arith, digit-join (join a b) c v, digit-join a b v, digit-join a (join b c) v, digit-join b c v))
+
 same-bool : (a b : Bool) → (a ≡ true → b ≡ true) → (b ≡ true → a ≡ true) → a ≡ b
 same-bool true b f g = sym (f refl)
 same-bool false true f g = g refl
@@ -28,6 +34,13 @@ same-bool false false f g = refl
 pub and-assoc : (a b c : Bool) → ((a && b) && c) ≡ (a && (b && c))
 and-assoc true b c = refl
 and-assoc false b c = refl
+
+-- the order in which a loop's tests are gathered
+pub and-loop : (a b c d : Bool) → (((a && b) && c) && d) ≡ (a && (c && (b && d)))
+and-loop true true c d = refl
+and-loop true false true d = refl
+and-loop true false false d = refl
+and-loop false b c d = refl
 
 pub and-true : (a : Bool) → (a && true) ≡ a
 and-true true = refl

@@ -12,6 +12,7 @@ use Rattle.model.proofs.Masks.{digit-le, digit-zero, digit-bit-here, digit-bit-
 use Rattle.demands.proofs.Settle.{sub-le}
 use Rattle.sets.specs.Flow.{Moved}
 use Rattle.sets.specs.States.{setAt, Marked, Above}
+use Rattle.sets.proofs.Rest.{moved-falls}
 use Rattle.sets.proofs.Relaxing.{Relaxed, relaxed-below, relaxed-jump, relaxed-above, same-at}
 use Rattle.sets.proofs.Turning.{Turn}
 
@@ -93,9 +94,9 @@ module _ {x : Tables} {was now' : List ℕ} {s led moved due walked wrong due' w
       other g = differ walked walked' s up (omega (arith, digit-le walked s)) (t .here)
 
       go : Dec (moved ≡ 0) → Dec (Has walked s) → remaining now' due' walked' < remaining was due walked
-      go (no g) p = first-falls due (omega (arith, m .falls, up, t .walkedFits)) (t .dueFits)
-      go (yes z) (no g) = first-falls due (omega (arith, m .falls, other g, t .walkedFits)) (t .dueFits)
-      go (yes z) (yes p) = last-falls (omega (arith, m .falls, up)) (less z p)
+      go (no g) p = first-falls due (omega (arith, moved-falls m, up, t .walkedFits)) (t .dueFits)
+      go (yes z) (no g) = first-falls due (omega (arith, moved-falls m, other g, t .walkedFits)) (t .dueFits)
+      go (yes z) (yes p) = last-falls (omega (arith, moved-falls m, up)) (less z p)
 
   module _ {wrong' : ℕ} {f : Bool} (r : Relaxed x s was now') (j : Marked s f wrong wrong') (g : f ≡ fine (topOf x) (setAt x was s) (act x s)) where
     reached-here : Reached x s

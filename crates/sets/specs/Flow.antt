@@ -1,19 +1,18 @@
 -- A walk of rows: what it is asked, and what it gives, the sets of Figure 7 with what is carried to each state met in place.
 -- Assumes nothing.
-use mathlib.Core.{Path._≡_, Logic._⊎_, Bool.Bool, Bool.true, Bool.false, List.List}
-use Prim.Native.Nat.{ℕ, _+_, _≤_, _<_, min}
+use mathlib.Core.{Path._≡_, Logic._⊎_, Bool.Bool, Bool.true, Bool.false, Bool._&&_, List.List}
+use Prim.Native.Nat.{ℕ, _≤_, _<_}
 use lib.{Dec.eqb, ListN.length, ListN.getD}
 use Rattle.model.specs.declared.Image.{Image}
-use Rattle.model.specs.Masks.{digit, meet}
+use Rattle.model.specs.Masks.{digit, Has, meet, join}
 use Rattle.model.specs.Image.{Tables, none, fieldsOf, tablesOf, rowCount}
 use Rattle.model.specs.Rows.{Kind, action, isKind}
 use Rattle.model.specs.Trees.{Action, Branches, Arms}
 use Rattle.model.specs.Decode.{actionAt}
 use Rattle.model.specs.Sets.{ends, endsBranches, endsArms, fine, fineBranches, fineArms, jumps, jumpsBranches, jumpsArms}
-use Rattle.model.specs.Largest.{Sub, sum}
+use Rattle.model.specs.Largest.{Sub}
 use Rattle.image.specs.Located.{Formed}
 use Rattle.masks.specs.Masks.{useAt, defAt}
-use Rattle.sets.specs.declared.flow.Went.{Went}
 
 -- Figure 7's sets: where the tree ends, at the jumps to each state; and whether no error is raised
 pub record Flow : Type 0 where
@@ -30,29 +29,31 @@ flowBranches top m bs = record { ends = endsBranches top m bs; fine = fineBranch
 abbrev pub flowArms : ℕ → ℕ → Arms → Flow
 flowArms top m arms = record { ends = endsArms top m arms; fine = fineArms top m arms; jumps = λ q. jumpsArms q top m arms }
 
--- the states whose sets changed; where one did, the sum of the sets fell
+-- the states whose sets changed: a set that changes falls
 pub record Moved (was now' : List ℕ) (moved : ℕ) : Type 0 where
   pub still : (q : ℕ) → digit moved q ≡ 0 → getD now' q 0 ≡ getD was q 0
-  pub falls : sum now' + min moved 1 ≤ sum was
+  pub fell : (q : ℕ) → Has moved q → getD now' q 0 < getD was q 0
 
--- what a walk gives: at each state the set that was there is met with what the jumps carry
-pub record Walked (f : Flow) (was now' : List ℕ) (r : Went) : Type 0 where
-  pub ends : r .ends ≡ f .ends
-  pub fine : r .fine ≡ f .fine
+-- they are added to those that moved before
+pub record Moves (was now' : List ℕ) (mv mv' : ℕ) : Type 0 where
+  pub states : ℕ
+  pub change : Moved was now' states
+  pub added : mv' ≡ join mv states
+
+-- what a walk gives: e is the set where it ends; at each state the set that was there is met with what the jumps carry; the states
+-- whose sets change are added to mv; where an error is raised ok turns false
+pub record Walked (f : Flow) (was now' : List ℕ) (mv mv' : ℕ) (ok ok' : Bool) (e : ℕ) : Type 0 where
+  pub ends : e ≡ f .ends
+  pub fine : ok' ≡ (ok && f .fine)
   pub size : length now' ≡ length was
   pub met : (q : ℕ) → q < length was → getD now' q 0 ≡ meet (getD was q 0) (f .jumps q)
-  pub change : Moved was now' (r .moved)
-
--- nothing is carried to a state
-abbrev pub stayed : ℕ → Bool → Went
-stayed e f = record { ends = e; moved = 0; fine = f }
+  pub moves : Moves was now' mv mv'
 
 -- the same of an action without parts that doesn't jump: nothing is carried anywhere
-pub record Plain (x : Tables) (row m : ℕ) (r : Went) : Type 0 where
-  pub ends : (top : ℕ) → r .ends ≡ ends top m (actionAt x row)
-  pub fine : (top : ℕ) → r .fine ≡ fine top m (actionAt x row)
+pub record Plain (x : Tables) (row m : ℕ) (ok ok' : Bool) (e : ℕ) : Type 0 where
+  pub ends : (top : ℕ) → e ≡ ends top m (actionAt x row)
+  pub fine : (top : ℕ) → ok' ≡ (ok && fine top m (actionAt x row))
   pub jumps : (top q : ℕ) → jumps q top m (actionAt x row) ≡ top
-  pub moved : r .moved ≡ 0
 
 -- the masks of rows below n that a walk reads
 pub record Masked (x : Tables) (n : ℕ) (uses defs : List ℕ) : Type 0 where

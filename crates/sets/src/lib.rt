@@ -83,11 +83,24 @@ fn settle(
         let row = state_row(image, i, s);
         let led = leads[row as usize];
         let set = sets[s as usize];
-        let r = walk(image, i, uses, defs, row, set, top, sets);
+        let mut moved: u64 = 0;
+        let mut fine = true;
+        walk(
+            &image,
+            i,
+            &uses,
+            &defs,
+            row,
+            set,
+            top,
+            sets,
+            &mut moved,
+            &mut fine,
+        );
         let bit: u64 = 1 << s;
         walked = walked | bit;
-        due = (due & !bit) | (led & r.moved) | (led & !walked);
-        wrong = mark(wrong, s, r.fine);
+        due = (due & !bit) | (led & moved) | (led & !walked);
+        wrong = mark(wrong, s, fine);
     }
     wrong
 }

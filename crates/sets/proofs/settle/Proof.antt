@@ -9,10 +9,10 @@ use Rattle.sets.proofs.settle.Statement.{statement}
 use Rattle.sets.proofs.settle.Tie as tie
 
 abbrev Inv-loop : tie.InvT-loop
-Inv-loop image i uses defs leads top sets₀ due₀ walked₀ wrong₀ sets due walked wrong = Visiting (tablesOf image) sets due walked wrong
+Inv-loop image i uses defs leads top sets₀ image₀ uses₀ defs₀ due₀ walked₀ wrong₀ sets due walked wrong = Visiting (tablesOf image) sets due walked wrong
 
 abbrev μ-loop : tie.MeasureT-loop
-μ-loop image i uses defs leads top sets₀ due₀ walked₀ wrong₀ sets due walked wrong = remaining sets due walked
+μ-loop image i uses defs leads top sets₀ image₀ uses₀ defs₀ due₀ walked₀ wrong₀ sets due walked wrong = remaining sets due walked
 
 loop-holds : tie.Need-loop-holds Inv-loop μ-loop
 loop-holds c = visiting-first (c .before .before .before .before .before .pre .stage)
@@ -42,22 +42,22 @@ slice-read-set : tie.Need-slice-read-set Inv-loop μ-loop
 slice-read-set c = due-inside (c .before .before .before .before .before .before .before .before .before .before .before .pre .given) (c .before .before .before .before .before .loop .inv) (c .before .before .before .lowest .ensures)
 
 walk-requires : tie.Need-walk-requires Inv-loop μ-loop
-walk-requires c κs = due-ready (c .before .before .before .before .before .before .before .before .before .before .before .before .pre .given) (c .before .before .before .before .before .before .loop .inv) (c .before .before .before .before .lowest .ensures) (c .before .before .before .state-row .ensures)
+walk-requires c κs = due-ready (c .before .before .before .before .before .before .before .before .before .before .before .before .before .before .before .before .before .pre .given) (c .before .before .before .before .before .before .before .before .before .before .before .loop .inv) (c .before .before .before .before .before .before .before .before .before .lowest .ensures) (c .before .before .before .before .before .before .before .before .state-row .ensures)
 
 cast-bit : tie.Need-cast-bit Inv-loop μ-loop
 cast-bit c = search needs
 
 shl-bit : tie.Need-shl-bit Inv-loop μ-loop
-shl-bit c = c .before .before .before .before .before .before .before .lowest .ensures .small
+shl-bit c = c .before .before .before .before .before .before .before .before .before .before .before .before .lowest .ensures .small
 
 mark-requires : tie.Need-mark-requires Inv-loop μ-loop
-mark-requires c κs = c .before .before .before .before .before .before .before .before .lowest .ensures .small
+mark-requires c κs = c .before .before .before .before .before .before .before .before .before .before .before .before .lowest .ensures .small
 
 loop-less : tie.Need-loop-less Inv-loop μ-loop
-loop-less c = walk-less (c .before .before .before .before .before .before .before .before .before .before .before .before .before .before .before .before .before .pre .given) (c .before .before .before .before .before .before .before .before .before .before .before .loop .inv) (c .before .before .before .before .before .before .before .before .before .lowest .ensures) (c .before .before .before .before .before .before .before .before .state-row .ensures) (c .before .before .before .before .before .before .before .shared-slice-known5 .given (c .before .before .before .before .before .before .before .before .state-row .result) .fits) (c .before .before .before .before .walk .ensures)
+loop-less c = walk-less (c .before .before .before .before .before .before .before .before .before .before .before .before .before .before .before .before .before .before .before .before .before .pre .given) (c .before .before .before .before .before .before .before .before .before .before .before .before .before .before .before .loop .inv) (c .before .before .before .before .before .before .before .before .before .before .before .before .before .lowest .ensures) (c .before .before .before .before .before .before .before .before .before .before .before .before .state-row .ensures) (c .before .before .before .before .before .before .before .before .before .before .before .shared-slice-known5 .given (c .before .before .before .before .before .before .before .before .before .before .before .before .state-row .result) .fits) (c .before .before .before .walk .ensures)
 
 loop-again : tie.Need-loop-again Inv-loop μ-loop
-loop-again c = walk-on (c .before .before .before .before .before .before .before .before .before .before .before .before .before .before .before .before .before .pre .given) (c .before .before .before .before .before .before .before .before .before .before .before .loop .inv) (c .before .before .before .before .before .before .before .before .before .lowest .ensures) (c .before .before .before .before .before .before .before .before .state-row .ensures) (c .before .before .before .before .before .before .before .shared-slice-known5 .given (c .before .before .before .before .before .before .before .before .state-row .result) .fits) (c .before .before .before .before .walk .ensures) (c .mark .ensures)
+loop-again c = walk-on (c .before .before .before .before .before .before .before .before .before .before .before .before .before .before .before .before .before .before .before .before .before .pre .given) (c .before .before .before .before .before .before .before .before .before .before .before .before .before .before .before .loop .inv) (c .before .before .before .before .before .before .before .before .before .before .before .before .before .lowest .ensures) (c .before .before .before .before .before .before .before .before .before .before .before .before .state-row .ensures) (c .before .before .before .before .before .before .before .before .before .before .before .shared-slice-known5 .given (c .before .before .before .before .before .before .before .before .before .before .before .before .state-row .result) .fits) (c .before .before .before .walk .ensures) (c .mark .ensures)
 
 same-length : tie.Need-same-length Inv-loop μ-loop
 same-length c = c .before .loop .inv .stage .size ∙ sym (c .before .before .before .before .before .before .before .pre .stage .size)

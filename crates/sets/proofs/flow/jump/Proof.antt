@@ -21,12 +21,9 @@ mul-old c = search needs
 slice-read-old : tie.Need-slice-read-old
 slice-read-old c = jump-inside (c .before .before .before .before .before .pre) (c .before .before .fields .ensures)
 
-stays-requires : tie.Need-stays-requires
-stays-requires c κs = search needs
-
 returns : tie.Need-returns
 unfolding meet
-returns c = still-jump (c .before .before .before .before .before .before .before .pre) (c .before .before .before .before .fields .ensures) _ _ refl (c .stays .ensures) (c .before .if1 .taken)
+returns c = still-jump (c .before .before .before .before .before .before .pre) (c .before .before .before .fields .ensures) _ _ refl (c .if1 .taken)
 
 mul-out : tie.Need-mul-out
 mul-out c = search needs
@@ -34,18 +31,18 @@ mul-out c = search needs
 slice-write-out : tie.Need-slice-write-out
 slice-write-out c = jump-inside (c .before .before .before .before .before .before .pre) (c .before .before .before .fields .ensures)
 
-cast-t13 : tie.Need-cast-t13
-cast-t13 c = search needs
+cast-moved : tie.Need-cast-moved
+cast-moved c = search needs
 
-shl-t16 : tie.Need-shl-t16
-shl-t16 c = jump-small (c .before .before .before .before .before .before .before .pre) (c .before .before .before .before .fields .ensures)
+shl-moved : tie.Need-shl-moved
+shl-moved c = jump-small (c .before .before .before .before .before .before .before .before .pre) (c .before .before .before .before .before .fields .ensures)
 
 same-length : tie.Need-same-length
 same-length c = search needs
 
 returns-2 : tie.Need-returns-2
 unfolding meet
-returns-2 c = do-jump (c .before .before .before .before .before .before .before .pre) (c .before .before .before .before .fields .ensures) _ _ refl (c .before .if1 .left)
+returns-2 c = do-jump (c .before .before .before .before .before .before .before .before .pre) (c .before .before .before .before .before .fields .ensures) _ _ refl (c .before .before .if1 .left)
 
 pub jump-spec : {M : Type 1} → statement M
 jump-spec =
@@ -55,11 +52,10 @@ jump-spec =
     cast-q
     mul-old
     slice-read-old
-    stays-requires
     returns
     mul-out
     slice-write-out
-    cast-t13
-    shl-t16
+    cast-moved
+    shl-moved
     same-length
     returns-2)

@@ -19,9 +19,6 @@ mask-at-requires-2 c κs = assign-in (base-of (c .before .before .before .before
 inside-requires : tie.Need-inside-requires
 inside-requires c κs = search needs
 
-stays-requires : tie.Need-stays-requires
-stays-requires c κs = search needs
-
 mask-at-requires-3 : tie.Need-mask-at-requires-3
 mask-at-requires-3 c κs = choose-in (base-of (c .before .before .before .before .before .pre .lent)) (c .before .before .before .before .before .args .row) (c .before .fields .ensures) (c .match .keys2) .1
 
@@ -31,14 +28,8 @@ mask-at-requires-4 c κs = choose-in (base-of (c .before .before .before .before
 inside-requires-2 : tie.Need-inside-requires-2
 inside-requires-2 c κs = search needs
 
-stays-requires-2 : tie.Need-stays-requires-2
-stays-requires-2 c κs = search needs
-
 mask-at-requires-5 : tie.Need-mask-at-requires-5
 mask-at-requires-5 c κs = reset-in (base-of (c .before .before .before .before .before .pre .lent)) (c .before .before .before .before .before .args .row) (c .before .fields .ensures) (c .match .keys3)
-
-stays-requires-3 : tie.Need-stays-requires-3
-stays-requires-3 c κs = search needs
 
 mask-at-requires-6 : tie.Need-mask-at-requires-6
 mask-at-requires-6 c κs = communicate-in (base-of (c .before .before .before .before .before .pre .lent)) (c .before .before .before .before .before .args .row) (c .before .fields .ensures) (c .match .keys4) .1
@@ -49,26 +40,20 @@ mask-at-requires-7 c κs = communicate-in (base-of (c .before .before .before .b
 inside-requires-3 : tie.Need-inside-requires-3
 inside-requires-3 c κs = search needs
 
-stays-requires-4 : tie.Need-stays-requires-4
-stays-requires-4 c κs = search needs
-
-stays-requires-5 : tie.Need-stays-requires-5
-stays-requires-5 c κs = search needs
-
 returns : tie.Need-returns
-returns c = rw (c .stays .ensures) (do-assign (base-of (c .before .before .before .before .before .before .before .before .before .pre .lent)) (c .before .before .before .before .before .before .before .before .before .args .row) (c .before .before .before .before .before .fields .ensures) _ _ _ _ (c .before .before .before .before .match .keys1) (c .before .before .before .mask-at .ensures) (c .before .before .mask-at2 .ensures) (c .before .inside .ensures))
+returns c = do-assign (base-of (c .before .before .before .before .before .before .before .before .pre .lent)) (c .before .before .before .before .before .before .before .before .args .row) (c .before .before .before .before .fields .ensures) _ _ _ _ (c .before .before .before .match .keys1) (c .before .before .mask-at .ensures) (c .before .mask-at2 .ensures) (c .inside .ensures)
 
 returns-2 : tie.Need-returns-2
-returns-2 c = rw (c .stays2 .ensures) (do-choose (base-of (c .before .before .before .before .before .before .before .before .before .pre .lent)) (c .before .before .before .before .before .before .before .before .before .args .row) (c .before .before .before .before .before .fields .ensures) _ _ _ _ (c .before .before .before .before .match .keys2) (c .before .before .before .mask-at3 .ensures) (c .before .before .mask-at4 .ensures) (c .before .inside2 .ensures))
+returns-2 c = do-choose (base-of (c .before .before .before .before .before .before .before .before .pre .lent)) (c .before .before .before .before .before .before .before .before .args .row) (c .before .before .before .before .fields .ensures) _ _ _ _ (c .before .before .before .match .keys2) (c .before .before .mask-at3 .ensures) (c .before .mask-at4 .ensures) (c .inside2 .ensures)
 
 returns-3 : tie.Need-returns-3
-returns-3 c = rw (c .stays3 .ensures) (do-reset (base-of (c .before .before .before .before .before .before .before .pre .lent)) (c .before .before .before .before .before .before .before .args .row) (c .before .before .before .fields .ensures) _ _ (c .before .before .before .before .before .before .before .fits .entering .fits) (omega arith) (c .before .before .match .keys3) (c .before .mask-at5 .ensures))
+returns-3 c = do-reset (base-of (c .before .before .before .before .before .before .pre .lent)) (c .before .before .before .before .before .before .args .row) (c .before .before .fields .ensures) _ _ (c .before .before .before .before .before .before .fits .entering .fits) (omega arith) (c .before .match .keys3) (c .mask-at5 .ensures)
 
 returns-4 : tie.Need-returns-4
-returns-4 c = rw (c .stays4 .ensures) (do-communicate (base-of (c .before .before .before .before .before .before .before .before .before .pre .lent)) (c .before .before .before .before .before .before .before .before .before .args .row) (c .before .before .before .before .before .fields .ensures) _ _ _ _ (c .before .before .before .before .match .keys4) (c .before .before .before .mask-at6 .ensures) (c .before .before .mask-at7 .ensures) (c .before .inside3 .ensures))
+returns-4 c = do-communicate (base-of (c .before .before .before .before .before .before .before .before .pre .lent)) (c .before .before .before .before .before .before .before .before .args .row) (c .before .before .before .before .fields .ensures) _ _ _ _ (c .before .before .before .match .keys4) (c .before .before .mask-at6 .ensures) (c .before .mask-at7 .ensures) (c .inside3 .ensures)
 
 returns-5 : tie.Need-returns-5
-returns-5 c = rw (c .stays5 .ensures) (do-null (base-of (c .before .before .before .before .before .before .pre .lent)) (c .before .before .before .before .before .before .args .row) (c .before .before .fields .ensures) _ (c .before .before .before .before .before .before .pre .kind) (c .before .before .before .before .before .before .pre .code) (c .before .match .rest .0 .0 .0 .1) (c .before .match .rest .0 .0 .1) (c .before .match .rest .0 .1) (c .before .match .rest .1))
+returns-5 c = do-null (base-of (c .before .before .before .before .before .pre .lent)) (c .before .before .before .before .before .args .row) (c .before .fields .ensures) _ (c .before .before .before .before .before .pre .kind) (c .before .before .before .before .before .pre .code) (c .match .rest .0 .0 .0 .1) (c .match .rest .0 .0 .1) (c .match .rest .0 .1) (c .match .rest .1)
 
 pub plain-spec : {M : Type 1} → statement M
 plain-spec =
@@ -78,18 +63,13 @@ plain-spec =
     mask-at-requires
     mask-at-requires-2
     inside-requires
-    stays-requires
     mask-at-requires-3
     mask-at-requires-4
     inside-requires-2
-    stays-requires-2
     mask-at-requires-5
-    stays-requires-3
     mask-at-requires-6
     mask-at-requires-7
     inside-requires-3
-    stays-requires-4
-    stays-requires-5
     returns
     returns-2
     returns-3
