@@ -134,7 +134,7 @@ null-told {m = m} h e l values script c =
     result-as 0 l m values out-ends
     (null-way h e (runOf l) values script (omega arith) (λ k. omega arith) (λ k. omega arith) (λ k. omega arith) (λ k. omega arith) (λ k. omega arith))
 
--- ---- the state in its slice
+-- ---- the state in its slots
 pub set-length : (l l' : List ℕ) (i n : ℕ) → l' ≡ set l i n → length l' ≡ length l
 set-length l l' i n e = ap length e ∙ length-set l i n
 
@@ -149,7 +149,7 @@ pub heard : (l l' : List ℕ) → 5 ≤ length l → l' ≡ set l 0 (runOf l .wo
     → runOf l' ≡ record { words = runOf l .words + 1; left = runOf l .left; spoken = runOf l .spoken; gate = runOf l .gate; count = runOf l .count }
 heard l l' h e = ap runOf e ∙ set-words l (runOf l .words + 1) h
 
--- the same slices
+-- the same lists
 pub run-same : {o p : Outcome} {l l' : List ℕ} {m n values vs : List ℤ} → ran o (runOf l') ≡ ran p (runOf l') → n ≡ m → vs ≡ values → l' ≡ l
     → resultOf (ran o (runOf l')) n vs ≡ gives p (stateOf (runOf l) m values)
 run-same {p = p} {m = m} {values = values} e f g h = answered-same p _ e f g ∙ ap (λ (k : List ℕ). gives p (stateOf (runOf k) m values)) h

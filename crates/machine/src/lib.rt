@@ -1,5 +1,5 @@
 // The run of an action, on a working copy of the store: one attempt. Running an action and running the branches or arms it
-// holds lead into each other. A run's state stands in a slice, and how it ended is a number (crate told).
+// holds lead into each other. A run's state stands in slots, and how it ended is a number (crate told).
 ghost use mathlib.Core.Path.{_≡_};
 ghost use mathlib.Core.Bool.{cond};
 ghost use Prim.Native.Nat.{suc, _+_, _-_, _/_, _^_, _≤_, _<_};
@@ -31,6 +31,8 @@ use patterns::Found;
 use patterns::find_arm;
 use simple::run_simple;
 use told::ENDS;
+use told::Slots;
+use told::Values;
 use told::charge;
 use told::hear;
 use told::left;
@@ -43,14 +45,14 @@ use values::size;
 use words::word;
 
 // Blocked, before or after communicating.
-fn blocked(r: u16, run: &[usize; 5]) -> u32
+fn blocked(r: u16, run: &Slots) -> u32
     ensures { λ n. ⌜ outcomeOf n ≡ Stops (cond (runOf (now (run .entry)) .spoken) (BlockedSpoken (row r)) (Blocked (row r))) ⌝ }
 {
     stopped(blocked_at(r, spoken(run)))
 }
 
 // One unit for a further test, where the body ended.
-fn again(r: u16, p: u32, run: &mut [usize; 5]) -> u32
+fn again(r: u16, p: u32, run: &mut Slots) -> u32
     requires { ⌜ 5 ≤ length (now run) ⌝ }
     ensures { λ n. ⌜ Turned r (ranOf p (now (run .entry))) (ranOf n (now (run .exit))) × (length (now (run .exit)) ≡ length (now (run .entry))) ⌝ }
 {
@@ -127,8 +129,8 @@ pub fn run_action(
     r: u16,
     store: &mut &mut [i32],
     script: &&[u8],
-    values: &mut [i32; 8],
-    run: &mut [usize; 5],
+    values: &mut Values,
+    run: &mut Slots,
 ) -> u32
     requires { ⌜ Running action (now (now image)) rows r (now (now store)) (now values) × (5 ≤ length (now run)) ⌝ }
     ensures { λ n. ⌜ Leaves n (now (run .entry)) (now (run .exit)) (now (now (store .entry))) (now (now (store .exit))) (now (values .entry)) (now (values .exit)) (exec (tablesOf (now (now (image .entry)))) (actionAt (tablesOf (now (now (image .entry)))) r) (now (now (script .entry))) (stateOf (runOf (now (run .entry))) (now (now (store .entry))) (now (values .entry)))) ⌝ }
@@ -158,8 +160,8 @@ fn run_both(
     b: u16,
     store: &mut &mut [i32],
     script: &&[u8],
-    values: &mut [i32; 8],
-    run: &mut [usize; 5],
+    values: &mut Values,
+    run: &mut Slots,
 ) -> u32
     requires { ⌜ (Running action (now (now image)) rows a (now (now store)) (now values) × Running action (now (now image)) rows b (now (now store)) (now values)) × (5 ≤ length (now run)) ⌝ }
     ensures { λ n. ⌜ Leaves n (now (run .entry)) (now (run .exit)) (now (now (store .entry))) (now (now (store .exit))) (now (values .entry)) (now (values .exit)) (andThen (exec (tablesOf (now (now (image .entry)))) (actionAt (tablesOf (now (now (image .entry)))) a) (now (now (script .entry))) (stateOf (runOf (now (run .entry))) (now (now (store .entry))) (now (values .entry)))) (exec (tablesOf (now (now (image .entry)))) (actionAt (tablesOf (now (now (image .entry)))) b) (now (now (script .entry))))) ⌝ }
@@ -179,8 +181,8 @@ fn run_select(
     a: u16,
     store: &mut &mut [i32],
     script: &&[u8],
-    values: &mut [i32; 8],
-    run: &mut [usize; 5],
+    values: &mut Values,
+    run: &mut Slots,
 ) -> u32
     requires { ⌜ RunningList branch (now (now image)) rows a (now (now store)) (now values) × (5 ≤ length (now run)) ⌝ }
     ensures { λ n. ⌜ Leaves n (now (run .entry)) (now (run .exit)) (now (now (store .entry))) (now (now (store .exit))) (now (values .entry)) (now (values .exit)) (execAct (tablesOf (now (now (image .entry)))) (select (branchesOf (tablesOf (now (now (image .entry)))) (actionAt (tablesOf (now (now (image .entry))))) (listAt (tablesOf (now (now (image .entry)))) a))) (now (now (script .entry))) r (stateOf (runOf (now (run .entry))) (now (now (store .entry))) (now (values .entry)))) ⌝ }
@@ -209,8 +211,8 @@ fn run_branches(
     k: u32,
     store: &mut &mut [i32],
     script: &&[u8],
-    values: &mut [i32; 8],
-    run: &mut [usize; 5],
+    values: &mut Values,
+    run: &mut Slots,
 ) -> u32
     requires { ⌜ RunningList branch (now (now image)) rows first (now (now store)) (now values) × (5 ≤ length (now run)) ⌝ }
     ensures { λ n. ⌜ Leaves n (now (run .entry)) (now (run .exit)) (now (now (store .entry))) (now (now (store .exit))) (now (values .entry)) (now (values .exit)) (execBranch (tablesOf (now (now (image .entry)))) (branchesOf (tablesOf (now (now (image .entry)))) (actionAt (tablesOf (now (now (image .entry))))) (listAt (tablesOf (now (now (image .entry)))) first)) (pos k) (now (now (script .entry))) r (stateOf (runOf (now (run .entry))) (now (now (store .entry))) (now (values .entry)))) ⌝ }
@@ -239,8 +241,8 @@ fn run_case(
     b: u16,
     store: &mut &mut [i32],
     script: &&[u8],
-    values: &mut [i32; 8],
-    run: &mut [usize; 5],
+    values: &mut Values,
+    run: &mut Slots,
 ) -> u32
     requires { ⌜ RunningCase (now (now image)) rows a b (now (now store)) (now values) × (5 ≤ length (now run)) ⌝ }
     ensures { λ n. ⌜ Leaves n (now (run .entry)) (now (run .exit)) (now (now (store .entry))) (now (now (store .exit))) (now (values .entry)) (now (values .exit)) (execAct (tablesOf (now (now (image .entry)))) (case (expressionAt (tablesOf (now (now (image .entry)))) a) (armsOf (tablesOf (now (now (image .entry)))) (actionAt (tablesOf (now (now (image .entry))))) (listAt (tablesOf (now (now (image .entry)))) b))) (now (now (script .entry))) r (stateOf (runOf (now (run .entry))) (now (now (store .entry))) (now (values .entry)))) ⌝ }
@@ -260,8 +262,8 @@ fn run_arms(
     z: i32,
     store: &mut &mut [i32],
     script: &&[u8],
-    values: &mut [i32; 8],
-    run: &mut [usize; 5],
+    values: &mut Values,
+    run: &mut Slots,
 ) -> u32
     requires { ⌜ RunningArms (now (now image)) rows first z (now (now store)) (now values) × (5 ≤ length (now run)) ⌝ }
     ensures { λ n. ⌜ Leaves n (now (run .entry)) (now (run .exit)) (now (now (store .entry))) (now (now (store .exit))) (now (values .entry)) (now (values .exit)) (execArms (tablesOf (now (now (image .entry)))) (armsOf (tablesOf (now (now (image .entry)))) (actionAt (tablesOf (now (now (image .entry))))) (listAt (tablesOf (now (now (image .entry)))) first)) z (now (now (script .entry))) r (stateOf (runOf (now (run .entry))) (now (now (store .entry))) (now (values .entry)))) ⌝ }
@@ -282,8 +284,8 @@ fn run_while(
     a: u16,
     store: &mut &mut [i32],
     script: &&[u8],
-    values: &mut [i32; 8],
-    run: &mut [usize; 5],
+    values: &mut Values,
+    run: &mut Slots,
 ) -> u32
     requires { ⌜ RunningLoop (now (now image)) rows r e a (now (now store)) (now values) × (5 ≤ length (now run)) ⌝ }
     ensures { λ n. ⌜ Leaves n (now (run .entry)) (now (run .exit)) (now (now (store .entry))) (now (now (store .exit))) (now (values .entry)) (now (values .exit)) (looping (suc (runOf (now (run .entry)) .left)) (tablesOf (now (now (image .entry)))) (expressionAt (tablesOf (now (now (image .entry)))) e) (exec (tablesOf (now (now (image .entry)))) (actionAt (tablesOf (now (now (image .entry)))) a) (now (now (script .entry)))) r (stateOf (runOf (now (run .entry))) (now (now (store .entry))) (now (values .entry)))) ⌝ }
@@ -311,8 +313,8 @@ fn run_for(
     a: u16,
     store: &mut &mut [i32],
     script: &&[u8],
-    values: &mut [i32; 8],
-    run: &mut [usize; 5],
+    values: &mut Values,
+    run: &mut Slots,
 ) -> u32
     requires { ⌜ RunningFor (now (now image)) rows r g a (now (now store)) (now values) × (5 ≤ length (now run)) ⌝ }
     ensures { λ n. ⌜ Leaves n (now (run .entry)) (now (run .exit)) (now (now (store .entry))) (now (now (store .exit))) (now (values .entry)) (now (values .exit)) (execAct (tablesOf (now (now (image .entry)))) (forOf (fieldsOf (tablesOf (now (now (image .entry)))) g) (actionAt (tablesOf (now (now (image .entry)))) a)) (now (now (script .entry))) r (stateOf (runOf (now (run .entry))) (now (now (store .entry))) (now (values .entry)))) ⌝ }

@@ -23,6 +23,8 @@ use model::Row;
 use model::State;
 use offers::communicate;
 use told::ENDS;
+use told::Slots;
+use told::Values;
 use told::put;
 use told::stopped;
 use told::taken;
@@ -59,14 +61,14 @@ fn read_on(
     communicate(image, i, r, w, store, script, values, run)
 }
 
-// The same, with the run's state taken out of its slice and put back.
+// The same, with the run's state taken out of its slots and put back.
 fn run_worded(
     image: &[u8],
     r: u16,
     store: &mut [i32],
     script: &&[u8],
-    values: &mut [i32; 8],
-    run: &mut [usize; 5],
+    values: &mut Values,
+    run: &mut Slots,
 ) -> u32
     requires { ⌜ Worded (now image) (trailerOf (now image)) r (now store) (now values) × (5 ≤ length (now run)) ⌝ }
     ensures { λ n. ⌜ Leaves n (now (run .entry)) (now (run .exit)) (now (store .entry)) (now (store .exit)) (now (values .entry)) (now (values .exit)) (execAct (tablesOf (now (image .entry))) (actOf (actionAt (tablesOf (now (image .entry))) r)) (now (now (script .entry))) r (stateOf (runOf (now (run .entry))) (now (store .entry)) (now (values .entry)))) ⌝ }
@@ -86,8 +88,8 @@ pub fn run_simple(
     r: u16,
     store: &mut [i32],
     script: &&[u8],
-    values: &mut [i32; 8],
-    run: &mut [usize; 5],
+    values: &mut Values,
+    run: &mut Slots,
 ) -> u32
     requires { ⌜ Simple (now image) rows r (now store) (now values) × (5 ≤ length (now run)) ⌝ }
     ensures { λ n. ⌜ Leaves n (now (run .entry)) (now (run .exit)) (now (store .entry)) (now (store .exit)) (now (values .entry)) (now (values .exit)) (execAct (tablesOf (now (image .entry))) (actOf (actionAt (tablesOf (now (image .entry))) r)) (now (now (script .entry))) r (stateOf (runOf (now (run .entry))) (now (store .entry)) (now (values .entry)))) ⌝ }

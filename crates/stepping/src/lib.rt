@@ -23,6 +23,8 @@ use model::Stepped;
 use model::Variable;
 use model::Verdict;
 use stages::image_verdict;
+use told::SLOTS;
+use told::Values;
 use told::outcome;
 use told::put;
 use told::taken;
@@ -97,13 +99,13 @@ fn try_step(
     q: u16,
     work: &mut &mut [i32],
     script: &[u8],
-    values: &mut [i32; 8],
+    values: &mut Values,
     budget: u32,
 ) -> Ran
     requires { ⌜ Trying (now image) i q (now (now work)) (now values) budget ⌝ }
     ensures { λ p. ⌜ Tried p (now (now (work .entry))) (now (now (work .exit))) (now (values .entry)) (now (values .exit)) (attempt (tablesOf (now (image .entry))) q (now (now (work .entry))) (now (script .entry)) budget) ⌝ }
 {
-    let mut run = [0usize; 5];
+    let mut run = [0usize; SLOTS];
     put(
         Run {
             words: 0,
@@ -148,7 +150,7 @@ fn step_on(
     budget: u32,
     label: &mut [i32],
     work: &mut &mut [i32],
-    values: &mut [i32; 8],
+    values: &mut Values,
 ) -> Stepped
     requires { ⌜ Steps (now image) i q (now store) budget (now label) (now (now work)) (now values) ⌝ }
     ensures { λ r. ⌜ record { answer = r; store = now (store .exit); label = now (label .exit) } ≡ ran (tablesOf (now (image .entry))) q (now (store .entry)) (now (script .entry)) budget (now (label .entry)) ⌝ }

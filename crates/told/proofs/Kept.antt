@@ -1,4 +1,4 @@
--- The run's state in its slice. Assumes nothing.
+-- The run's state in its slots. Assumes nothing.
 use mathlib.Core.{Path._≡_, Path.refl, Path.ap, Path._∙_, Bool.Bool, Bool.true, Bool.false, List.List, List.[], List._∷_}
 use Prim.Native.Nat.{ℕ, _-_, _≤_, _<_}
 use mir.Val.{boolByte}

@@ -1,4 +1,4 @@
--- What the run of an action hands on: its state in a slice, and how it ended as a number. Assumes nothing.
+-- What the run of an action hands on: its state in slots, and how it ended as a number. Assumes nothing.
 use mathlib.Core.{Path._≡_, Bool.cond, List.List}
 use Prim.Native.Nat.{ℕ, _+_, _-_, _*_, _/_, _%_, _≤_}
 use mir.Val.{boolByte}
@@ -20,7 +20,7 @@ runOf l =
       count = getD l 4 0 % 65536;
     }
 
--- and the slice with a run's state put into it
+-- and the slots with a run's state put into them
 abbrev pub slotsOf : Run → List ℕ → List ℕ
 slotsOf q l =
     set (set (set (set (set l 0 (q .words)) 1 (q .left)) 2 (boolByte (q .spoken))) 3 (q .gate)) 4 (q .count)
@@ -63,7 +63,7 @@ ranOf n l = record { out = outcomeOf n; run = runOf l }
 pub record OfRun (o : Outcome) : Type 0 where
   pub late : (y : Refusal) → o ≡ Stops y → 21 ≤ number y
 
--- what a run told as n leaves in its slices, each as long as it was: its state in k, the store in j, the label's values in u
+-- what a run told as n leaves, each list as long as it was: its state in k, the store in j, the label's values in u
 pub record Leaves (n : ℕ) (l k : List ℕ) (m j v u : List ℤ) (q : Res) : Type 0 where
   pub result : resultOf (ranOf n k) j u ≡ q
   pub run : length k ≡ length l

@@ -1,4 +1,4 @@
-// What the run of an action hands on from row to row, so that no copy is made for it: its state in a slice, and how it
+// What the run of an action hands on from row to row, so that no copy is made for it: its state in an array, and how it
 // ended as a number.
 ghost use mathlib.Core.Path.{_≡_};
 ghost use Prim.Native.Nat.{_+_, _-_, _≤_, _<_, _^_};
@@ -7,12 +7,20 @@ ghost use Rattle.model.specs.declared.{Outcome.the-variants.Stops};
 ghost use Rattle.model.specs.Answers.{number};
 ghost use Rattle.told.specs.Told.{runOf, refusalOf, outcomeOf, OfRun, Tells, Puts};
 use actions::Run;
+use model::Image;
 use model::Outcome;
 use model::Refusal;
 use model::Row;
 use model::State;
 
-// Where a run's state stands in its slice.
+// A run's state, and room for a label's values.
+pub const SLOTS: usize = 5;
+
+pub type Slots = [usize; SLOTS];
+
+pub type Values = [i32; Image::VECTOR as usize];
+
+// Where a run's state stands in its slots.
 const WORDS: usize = 0;
 
 const LEFT: usize = 1;
@@ -76,8 +84,8 @@ pub fn outcome(n: u32) -> Outcome
     Outcome::Stops(refusal(n / STOPS, Row((n % 65536) as u16)))
 }
 
-// A run's state, taken out of its slice.
-pub fn taken(run: &[usize; 5]) -> Run
+// A run's state, taken out of its slots.
+pub fn taken(run: &Slots) -> Run
     ensures { λ r. ⌜ r ≡ runOf (now (run .entry)) ⌝ }
 {
     Run {
@@ -90,7 +98,7 @@ pub fn taken(run: &[usize; 5]) -> Run
 }
 
 // And put back.
-pub fn put(q: Run, run: &mut [usize; 5])
+pub fn put(q: Run, run: &mut Slots)
     requires { ⌜ 5 ≤ length (now run) ⌝ }
     ensures { λ _. ⌜ Puts q (now (run .entry)) (now (run .exit)) ⌝ }
 {
@@ -102,14 +110,14 @@ pub fn put(q: Run, run: &mut [usize; 5])
 }
 
 // The units left.
-pub fn left(run: &[usize; 5]) -> usize
+pub fn left(run: &Slots) -> usize
     ensures { λ n. ⌜ n ≡ runOf (now (run .entry)) .left ⌝ }
 {
     run[LEFT]
 }
 
 // One unit less.
-pub fn charge(run: &mut [usize; 5])
+pub fn charge(run: &mut Slots)
     requires { ⌜ 1 ≤ runOf (now run) .left ⌝ }
     ensures { λ _. ⌜ now (run .exit) ≡ set (now (run .entry)) 1 (runOf (now (run .entry)) .left - 1) ⌝ }
 {
@@ -117,14 +125,14 @@ pub fn charge(run: &mut [usize; 5])
 }
 
 // The words read.
-pub fn words(run: &[usize; 5]) -> usize
+pub fn words(run: &Slots) -> usize
     ensures { λ n. ⌜ n ≡ runOf (now (run .entry)) .words ⌝ }
 {
     run[WORDS]
 }
 
 // One word more.
-pub fn hear(run: &mut [usize; 5])
+pub fn hear(run: &mut Slots)
     requires { ⌜ runOf (now run) .words + 1 < 2 ^ 64 ⌝ }
     ensures { λ _. ⌜ now (run .exit) ≡ set (now (run .entry)) 0 (runOf (now (run .entry)) .words + 1) ⌝ }
 {
@@ -132,7 +140,7 @@ pub fn hear(run: &mut [usize; 5])
 }
 
 // Whether something was said.
-pub fn spoken(run: &[usize; 5]) -> bool
+pub fn spoken(run: &Slots) -> bool
     ensures { λ b. ⌜ b ≡ runOf (now (run .entry)) .spoken ⌝ }
 {
     run[SPOKEN] == 1
