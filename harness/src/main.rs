@@ -21,7 +21,8 @@ harness: an independent check, start and step of NTIF images against the proved 
       times of both on accepted images (default 15 rounds); start and step of
       the library only with the feature `step`
   harness stack
-      bytes of stack that each call needs on the deepest images
+      bytes of stack that each call needs on the deepest images; exit 1 if one of
+      the library's needs more than 256 KiB
   harness check FILE
       what both say of the image in FILE: number and place, or the masks
   harness --help
@@ -40,10 +41,7 @@ fn main() -> ExitCode {
         }
         ["differ", options @ ..] => run_differ(options),
         ["bench", options @ ..] => run_bench(options),
-        ["stack"] => {
-            stack_table::run();
-            Ok(ExitCode::SUCCESS)
-        }
+        ["stack"] => run_stack(),
         ["stack", ..] => Err("stack takes no options".to_string()),
         ["check", file] => run_check(file),
         ["check", ..] => Err("check wants one FILE".to_string()),
@@ -71,6 +69,14 @@ fn numbers<const N: usize>(
         values[at] = given.parse().map_err(wrong)?;
     }
     Ok(values)
+}
+
+fn run_stack() -> Result<ExitCode, String> {
+    if stack_table::run() {
+        return Ok(ExitCode::SUCCESS);
+    }
+    eprintln!("harness: a call needs more than {} bytes of stack", stack_table::LIMIT);
+    Ok(ExitCode::FAILURE)
 }
 
 fn run_differ(options: &[&str]) -> Result<ExitCode, String> {

@@ -7,6 +7,8 @@ use crate::nests::{all, Nest};
 use crate::stack::{depth_of, GAP};
 
 const AMPLE: u32 = 1_000_000;
+/// What a call of the library may take at most.
+pub const LIMIT: usize = 256 << 10;
 
 /// One call on a nest; it asserts that the call runs through.
 type Call = Box<dyn Fn(&Nest) + Sync>;
@@ -57,11 +59,12 @@ fn cell(bytes: Option<usize>) -> String {
     }
 }
 
-/// Measures every call on every nest and prints the table.
-pub fn run() {
+/// Measures every call on every nest and prints the table: is the library within its limit?
+pub fn run() -> bool {
     println!("| call | image | rows | depth | library bytes | Rust bytes |");
     println!("|---|---|---:|---:|---:|---:|");
     let nests = all();
+    let mut within = true;
     for Pair { name, library, rust } in pairs() {
         let mut most = [None; 2];
         for nest in &nests {
@@ -72,7 +75,10 @@ pub fn run() {
             println!("| {name} | {image} | {rows} | {depth} | {first} | {second} |");
             most = [most[0].max(found[0]), most[1].max(found[1])];
         }
+        let library_most = most[0];
         let [first, second] = most.map(cell);
         println!("| {name} | the most | | | {first} | {second} |");
+        within &= library_most <= Some(LIMIT);
     }
+    within
 }
