@@ -142,7 +142,6 @@ pub fn run_action(
     let w = row(*image, rows, r);
     let code = w.code;
     match code {
-        48 => ENDS,
         54 => run_both(image, rows, w.a, w.b, store, script, values, run),
         55 => run_select(image, rows, r, w.a, store, script, values, run),
         56 => run_case(image, rows, r, w.a, w.b, store, script, values, run),
@@ -275,6 +274,30 @@ fn run_arms(
     }
 }
 
+// A loop's body: null, which changes nothing, without a call.
+fn run_body(
+    image: &&[u8],
+    rows: u16,
+    a: u16,
+    store: &mut &mut [i32],
+    script: &&[u8],
+    values: &mut Values,
+    run: &mut Slots,
+) -> u32
+    requires { ⌜ Running action (now (now image)) rows a (now (now store)) (now values) × (5 ≤ length (now run)) ⌝ }
+    ensures { λ n. ⌜ Leaves n (now (run .entry)) (now (run .exit)) (now (now (store .entry))) (now (now (store .exit))) (now (values .entry)) (now (values .exit)) (exec (tablesOf (now (now (image .entry)))) (actionAt (tablesOf (now (now (image .entry)))) a) (now (now (script .entry))) (stateOf (runOf (now (run .entry))) (now (now (store .entry))) (now (values .entry)))) ⌝ }
+{
+    let w = row(*image, rows, a);
+    if w.code != 48 {
+        return run_action(image, rows, a, store, script, values, run);
+    }
+    if left(run) == 0 {
+        return stopped(Refusal::BudgetSpent(Row(a)));
+    }
+    charge(run);
+    ENDS
+}
+
 // While e do a; one unit for each further test.
 fn run_while(
     image: &&[u8],
@@ -296,7 +319,7 @@ fn run_while(
             Tested::Unsure => return stopped(Refusal::Undefined(Row(r))),
             Tested::Holds => {}
         }
-        let p = run_action(image, rows, a, store, script, values, run);
+        let p = run_body(image, rows, a, store, script, values, run);
         let n = again(r, p, run);
         if n != ENDS {
             return n;
@@ -329,7 +352,7 @@ fn run_for(
             Tested::Unsure => return stopped(Refusal::Undefined(Row(r))),
             Tested::Holds => {}
         }
-        let p = run_action(image, rows, a, store, script, values, run);
+        let p = run_body(image, rows, a, store, script, values, run);
         let o = onward(r, v, p, *store);
         let n = again(r, o, run);
         if n != ENDS {

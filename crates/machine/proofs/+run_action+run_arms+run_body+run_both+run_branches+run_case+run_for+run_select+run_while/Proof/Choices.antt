@@ -18,14 +18,14 @@ use Rattle.machine.proofs.Ways.{branch-action, heard-left, branch-over,
 use Rattle.machine.proofs.Arms.{case-arms, case-is, case-unknown, arm-finds, arm-action, arm-found, arm-none, arm-unsure}
 use Rattle.machine.proofs.Helpers.{told-as, heard, set-length, run-same, from-same}
 use Rattle.machine.proofs.run_arms.Reads as run-arms
-use Rattle.machine.proofs.+run_action+run_arms+run_both+run_branches+run_case+run_for+run_select+run_while.Lts-run_arms as run-arms-lts
+use Rattle.machine.proofs.+run_action+run_arms+run_body+run_both+run_branches+run_case+run_for+run_select+run_while.Lts-run_arms as run-arms-lts
 use Rattle.machine.proofs.run_branches.Reads as run-branches
-use Rattle.machine.proofs.+run_action+run_arms+run_both+run_branches+run_case+run_for+run_select+run_while.Lts-run_branches as run-branches-lts
+use Rattle.machine.proofs.+run_action+run_arms+run_body+run_both+run_branches+run_case+run_for+run_select+run_while.Lts-run_branches as run-branches-lts
 use Rattle.machine.proofs.run_case.Reads as run-case
-use Rattle.machine.proofs.+run_action+run_arms+run_both+run_branches+run_case+run_for+run_select+run_while.Lts-run_case as run-case-lts
+use Rattle.machine.proofs.+run_action+run_arms+run_body+run_both+run_branches+run_case+run_for+run_select+run_while.Lts-run_case as run-case-lts
 use Rattle.machine.proofs.run_select.Reads as run-select
-use Rattle.machine.proofs.+run_action+run_arms+run_both+run_branches+run_case+run_for+run_select+run_while.Lts-run_select as run-select-lts
-use Rattle.machine.proofs.+run_action+run_arms+run_both+run_branches+run_case+run_for+run_select+run_while.Proof.Claims.{run-arms-at, run-branches-at, run-case-at, run-select-at, run-arms-calls, run-branches-calls, run-case-calls, run-select-calls}
+use Rattle.machine.proofs.+run_action+run_arms+run_body+run_both+run_branches+run_case+run_for+run_select+run_while.Lts-run_select as run-select-lts
+use Rattle.machine.proofs.+run_action+run_arms+run_body+run_both+run_branches+run_case+run_for+run_select+run_while.Proof.Claims.{run-arms-at, run-branches-at, run-case-at, run-select-at, run-arms-calls, run-branches-calls, run-case-calls, run-select-calls}
 
 pub run-select-blocked-requires : (t : ℕ) → run-select-lts.Need-blocked-requires (run-select-calls t) (run-select-at t) run-select.Post
 run-select-blocked-requires t c κs =
