@@ -15,7 +15,7 @@ ghost use Rattle.model.specs.Trees.{select, case};
 ghost use Rattle.model.specs.Run.{eval, test, andThen, looping, exec, execAct, execBranch, execArms};
 ghost use Rattle.expressions.specs.Ready.{Runs};
 ghost use Rattle.actions.specs.State.{stateOf};
-ghost use Rattle.told.specs.Told.{runOf, outcomeOf, ranOf, Leaves};
+ghost use Rattle.told.specs.Told.{runOf, outcomeOf, ranOf, Tells, Told, Leaves};
 ghost use Rattle.machine.specs.Running.{Running, RunningList, RunningCase, RunningArms, RunningLoop, RunningFor, SlotOf, Turned, Onward, AtMost};
 use actions::blocked_at;
 use expressions::eval;
@@ -46,15 +46,15 @@ use words::word;
 
 // Blocked, before or after communicating.
 fn blocked(r: u16, run: &Slots) -> u32
-    ensures { λ n. ⌜ outcomeOf n ≡ Stops (cond (runOf (now (run .entry)) .spoken) (BlockedSpoken (row r)) (Blocked (row r))) ⌝ }
+    ensures { λ n. ⌜ Tells n (Stops (cond (runOf (now (run .entry)) .spoken) (BlockedSpoken (row r)) (Blocked (row r)))) ⌝ }
 {
     stopped(blocked_at(r, spoken(run)))
 }
 
 // One unit for a further test, where the body ended.
 fn again(r: u16, p: u32, run: &mut Slots) -> u32
-    requires { ⌜ 5 ≤ length (now run) ⌝ }
-    ensures { λ n. ⌜ Turned r (ranOf p (now (run .entry))) (ranOf n (now (run .exit))) × (length (now (run .exit)) ≡ length (now (run .entry))) ⌝ }
+    requires { ⌜ Told p × (5 ≤ length (now run)) ⌝ }
+    ensures { λ n. ⌜ Told n × Turned r (ranOf p (now (run .entry))) (ranOf n (now (run .exit))) × (length (now (run .exit)) ≡ length (now (run .entry))) ⌝ }
 {
     if p != ENDS {
         return p;
@@ -68,8 +68,8 @@ fn again(r: u16, p: u32, run: &mut Slots) -> u32
 
 // V := V + 1 of a for, where its body ended.
 fn onward(r: u16, v: u16, p: u32, store: &mut [i32]) -> u32
-    requires { ⌜ SlotOf (outcomeOf p) v (now store) ⌝ }
-    ensures { λ n. ⌜ Onward r v (outcomeOf p) (now (store .entry)) (outcomeOf n) (now (store .exit)) ⌝ }
+    requires { ⌜ Told p × SlotOf (outcomeOf p) v (now store) ⌝ }
+    ensures { λ n. ⌜ Told n × Onward r v (outcomeOf p) (now (store .entry)) (outcomeOf n) (now (store .exit)) ⌝ }
 {
     if p != ENDS {
         return p;

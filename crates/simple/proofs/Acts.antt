@@ -21,8 +21,8 @@ use Rattle.actions.specs.Doing.{Doing}
 use Rattle.actions.specs.Items.{Items, Assigned as Stored, assigns}
 use Rattle.actions.specs.State.{stateOf, resultOf, Silent}
 use Rattle.actions.proofs.Done.{assign-items, assign-ends, assign-fails}
-use Rattle.told.proofs.Coded.{out-ends}
-use Rattle.told.specs.Told.{runOf, outcomeOf, ranOf}
+use Rattle.told.proofs.Coded.{tells-ends, told-by}
+use Rattle.told.specs.Told.{runOf, outcomeOf, ranOf, Tells}
 use Rattle.simple.specs.Simple.{Simple, Worded, Assigning, Assigned}
 
 module _ {s : List ℕ} {rows r : ℕ} {m : List ℤ} (h : Runs action s rows r m) {w : Fields} (e : w ≡ fieldsOf (tablesOf s) r) where
@@ -149,9 +149,10 @@ is-communicate {s} {r = r} h {w} e f = ap (λ (y : Fields). y .code) e ∙ go (h
     go (inr c) = c
 
 -- ---- what is left in the slices
-assigned-as : (n : ℕ) {m j : List ℤ} {f : St → Res} {o : Outcome} → outcomeOf n ≡ o → ((run : Run) → Silent (record { out = o; run = run }) run m j f) → Assigned n m j f
+assigned-as : (n : ℕ) {m j : List ℤ} {f : St → Res} {o : Outcome} → Tells n o → ((run : Run) → Silent (record { out = o; run = run }) run m j f) → Assigned n m j f
 assigned-as n {j = j} e d = record {
-  does = λ run. record { does = λ values. ap (λ (u : Outcome). resultOf (record { out = u; run = run }) j values) e ∙ d run .does values };
+  told = told-by e;
+  does = λ run. record { does = λ values. ap (λ (u : Outcome). resultOf (record { out = u; run = run }) j values) (e .outcome) ∙ d run .does values };
 }
 
 pub result-as : (n : ℕ) {o : Outcome} (l : List ℕ) (j v : List ℤ) {q : Res} → outcomeOf n ≡ o → resultOf (record { out = o; run = runOf l }) j v ≡ q → resultOf (ranOf n l) j v ≡ q
@@ -174,7 +175,7 @@ module _ {s : List ℕ} {rows r f : ℕ} {m : List ℤ} (h : Assigning s rows r 
     from-row = rw (h .first) at q
 
     pub assigned-ends : d ≡ true → Assigned 0 m j (assigning (tablesOf s) (getsAt (tablesOf s) f) r)
-    assigned-ends k = rw (h .first) (assigned-as 0 out-ends (λ run. assign-ends (assign-doing h) run from-row k))
+    assigned-ends k = rw (h .first) (assigned-as 0 tells-ends (λ run. assign-ends (assign-doing h) run from-row k))
 
-    pub assigned-fails : (n : ℕ) → d ≡ false → outcomeOf n ≡ Stops (Undefined (row r)) → Assigned n m j (assigning (tablesOf s) (getsAt (tablesOf s) f) r)
-    assigned-fails n k e = rw (h .first) (assigned-as n e (λ run. assign-fails (assign-doing h) run from-row k))
+    pub assigned-fails : {n : ℕ} → d ≡ false → Tells n (Stops (Undefined (row r))) → Assigned n m j (assigning (tablesOf s) (getsAt (tablesOf s) f) r)
+    assigned-fails {n} k e = rw (h .first) (assigned-as n e (λ run. assign-fails (assign-doing h) run from-row k))

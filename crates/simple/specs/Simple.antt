@@ -9,7 +9,7 @@ use Rattle.model.specs.Run.{St, Res}
 use Rattle.expressions.specs.Ready.{Ready}
 use Rattle.actions.specs.declared.{Run.Run}
 use Rattle.actions.specs.State.{Silent}
-use Rattle.told.specs.Told.{outcomeOf}
+use Rattle.told.specs.Told.{outcomeOf, Told}
 
 -- of an image and a store that a step runs, with room for a label's values
 pub record Simple (s : List ℕ) (rows r : ℕ) (m values : List ℤ) : Type 0 where
@@ -37,4 +37,5 @@ pub record Assigning (s : List ℕ) (rows r f : ℕ) (m : List ℤ) : Type 0 whe
 
 -- what one told as n does from the store m to the store j, whatever the run
 pub record Assigned (n : ℕ) (m j : List ℤ) (f : St → Res) : Type 0 where
+  pub told : Told n
   pub does : (run : Run) → Silent (record { out = outcomeOf n; run = run }) run m j f

@@ -6,7 +6,7 @@ use lib.Dec.{eqb, ltb}
 use borrow.Author.Tests.{eqb-true, ne-eqb, lt-ltb, le-ltb}
 use Rattle.model.specs.declared.{State.State, Row.Row, Refusal.Refusal, Refusal.the-variants.ImageLength, Refusal.the-variants.MarkOrLength, Refusal.the-variants.Starts, Refusal.the-variants.Entries, Refusal.the-variants.Malformed, Refusal.the-variants.NoAction, Refusal.the-variants.NoCondition, Refusal.the-variants.NotNamedOnce, Refusal.the-variants.Typing, Refusal.the-variants.Binding, Refusal.the-variants.SetsShort, Refusal.the-variants.Initialisation, Refusal.the-variants.Speech, Refusal.the-variants.StoreLength, Refusal.the-variants.ParameterCount, Refusal.the-variants.ParameterValue, Refusal.the-variants.ConditionFalse, Refusal.the-variants.NoState, Refusal.the-variants.SlotValue, Refusal.the-variants.LabelShort, Refusal.the-variants.BudgetOver, Refusal.the-variants.Blocked, Refusal.the-variants.Undefined, Refusal.the-variants.ScriptEnded, Refusal.the-variants.WordOutOfRange, Refusal.the-variants.BudgetSpent, Refusal.the-variants.BlockedSpoken, Refusal.the-variants.SecondCommunication, Outcome.Outcome, Outcome.the-variants.Ends, Outcome.the-variants.Jumps, Outcome.the-variants.Stops}
 use Rattle.model.specs.Answers.{state, row, number, place}
-use Rattle.told.specs.Told.{refusalOf, outcomeOf, toldOf, Tells}
+use Rattle.told.specs.Told.{refusalOf, outcomeOf, toldOf, Tells, Told}
 
 -- ---- refusals
 pub as-21 : (n : ℕ) (r : Row) → n ≡ 21 → Blocked r ≡ refusalOf n r
@@ -156,3 +156,9 @@ tells-jump q h = record { told = refl; outcome = jump-told q h }
 pub tells-stop : (y : Refusal) {n p : ℕ} → 21 ≤ number y → n ≡ number y → p ≡ place y → p < 65536 → Tells (n * 131072 + p) (Stops y)
 unfolding toldOf
 tells-stop y {n} {p} h e f s = record { told = rw (e, f) refl; outcome = stop-told y h e f s }
+
+pub told-by : {n : ℕ} {o : Outcome} → Tells n o → Told n
+told-by t = t .told ∙ ap toldOf (sym (t .outcome))
+
+pub told-ends : Told 0
+told-ends = told-by tells-ends

@@ -63,8 +63,13 @@ ranOf n l = record { out = outcomeOf n; run = runOf l }
 pub record OfRun (o : Outcome) : Type 0 where
   pub late : (y : Refusal) → o ≡ Stops y → 21 ≤ number y
 
+-- a number that tells an outcome as toldOf does
+abbrev pub Told : ℕ → Type 0
+Told n = n ≡ toldOf (outcomeOf n)
+
 -- what a run told as n leaves, each list as long as it was: its state in k, the store in j, the label's values in u
 pub record Leaves (n : ℕ) (l k : List ℕ) (m j v u : List ℤ) (q : Res) : Type 0 where
+  pub told : Told n
   pub result : resultOf (ranOf n k) j u ≡ q
   pub run : length k ≡ length l
   pub store : length j ≡ length m

@@ -2,6 +2,7 @@ use mathlib.Core.{Path.ap, Path._∙_, Bool.Bool, Bool.cond}
 use Rattle.model.specs.Answers.{row}
 use Rattle.model.specs.declared.{Refusal.the-variants.Blocked, Refusal.the-variants.BlockedSpoken, Outcome.the-variants.Stops}
 use Rattle.machine.proofs.Helpers.{blocked-late}
+use Rattle.told.proofs.Coded.{tells-as}
 use borrow.Author.Needs.{needs}
 use Rattle.machine.proofs.blocked.Statement.{statement}
 use Rattle.machine.proofs.blocked.Tie as tie
@@ -17,7 +18,7 @@ stopped-requires c κs = blocked-late (c .before .spoken .result) (c .before .be
 
 returns : tie.Need-returns
 returns c =
-    c .stopped .ensures .outcome ∙ ap Stops (c .before .blocked-at .ensures) ∙ ap (λ (b : Bool). Stops (cond b (BlockedSpoken (row (c .before .before .before .args .r))) (Blocked (row (c .before .before .before .args .r))))) (c .before .before .spoken .ensures)
+    tells-as (c .stopped .ensures) (ap Stops (c .before .blocked-at .ensures) ∙ ap (λ (b : Bool). Stops (cond b (BlockedSpoken (row (c .before .before .before .args .r))) (Blocked (row (c .before .before .before .args .r))))) (c .before .before .spoken .ensures))
 
 pub blocked-spec : {M : Type 1} → statement M
 blocked-spec = tie.close (tie.spec spoken-requires blocked-at-requires stopped-requires returns)

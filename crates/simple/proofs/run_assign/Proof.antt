@@ -21,7 +21,7 @@ same-length-2 c = search needs
 
 returns-2 : tie.Need-returns-2
 returns-2 c =
-    assigned-fails (c .before .before .before .before .before .before .pre) (c .before .before .before .assign .ensures) _ (c .before .if1 .left) (c .stopped .ensures .outcome)
+    assigned-fails (c .before .before .before .before .before .before .pre) (c .before .before .before .assign .ensures) (c .before .if1 .left) (c .stopped .ensures)
 
 pub run-assign-spec : {M : Type 1} → statement M
 run-assign-spec = tie.close (tie.spec assign-requires same-length returns stopped-requires same-length-2 returns-2)

@@ -2,7 +2,7 @@ use borrow.Author.Needs.{needs}
 use native.Mathlib.Omega.{arith}
 use Rattle.image.proofs.Laid.{laid}
 use Rattle.expressions.proofs.{Ways.located, Numbers.whole}
-use Rattle.told.proofs.Kept.{slots-length}
+use Rattle.told.proofs.{Coded.told-by, Kept.slots-length}
 use Rattle.simple.proofs.{Late.act-stops, Acts.worded-told}
 use Rattle.simple.proofs.run_worded.Statement.{statement}
 use Rattle.simple.proofs.run_worded.Tie as tie
@@ -49,6 +49,7 @@ same-length c = search needs
 returns : tie.Need-returns
 returns c =
     record {
+      told = told-by (c .told .ensures);
       result = worded-told (c .before .before .before .before .before .before .before .before .before .before .before .before .before .before .args .image .now) (c .before .before .before .before .before .before .before .before .before .before .before .before .before .before .args .r) (c .before .before .before .before .before .before .before .before .before .before .before .before .before .before .args .script .now .now) (c .told .result) (c .before .before .before .before .before .before .before .before .before .before .before .before .before .before .args .run .now) (c .before .put .last .1 .0) (c .before .before .before .before .before .before .before .before .before .before .before .before .before .before .args .store .now) (c .before .before .before .before .read-on .last .1 .1 .1 .0) (c .before .before .before .before .before .before .before .before .before .before .before .before .before .before .args .values .now) (c .before .before .before .before .read-on .last .1 .1 .1 .1 .1 .0) (c .told .ensures .outcome) (c .before .put .ensures .run) (c .before .before .before .before .before .before .before .before .before .taken .ensures) (rw (whole (c .before .before .before .before .before .before .before .before .before .before .before .before .before .before .args .image .now)) at (c .before .before .before .before .read-on .ensures));
       run = slots-length (c .before .put .ensures);
       store = search needs;

@@ -4,7 +4,7 @@ use Prim.Native.Nat.{ℕ}
 use native.Mathlib.Omega.{arith}
 use borrow.Author.Needs.{needs}
 use Rattle.told.specs.Told.{runOf, ranOf}
-use Rattle.told.proofs.Coded.{ends-at, out-over}
+use Rattle.told.proofs.Coded.{ends-at, out-over, told-by}
 use Rattle.machine.proofs.Parts.{row-of, moved, both-parts, select-parts, case-parts, while-parts, for-parts, simple-parts}
 use Rattle.machine.proofs.Ways.{spent-way, simple-way, both-way, select-way, case-way, while-way, for-way, left-of, ends-typed, both-ends, both-stops, paid-left}
 use Rattle.machine.proofs.Helpers.{told-as, paid, set-length}
@@ -25,6 +25,7 @@ run-action-stopped-requires t c κs =
 pub run-action-returns : (t : ℕ) → run-action-lts.Need-returns (run-action-calls t) (run-action-at t) run-action.Post
 run-action-returns t c =
     record {
+      told = told-by (c .stopped .ensures);
       result = spent-way (c .before .before .before .before .pre .1 .0) _ (runOf (c .before .before .before .before .args .run .now)) (sym (c .before .before .left .ensures) ∙ c .before .if1 .taken) (told-as (runOf (c .before .before .before .before .args .run .now)) (c .stopped .ensures .outcome));
       run = refl;
       store = refl;
@@ -70,6 +71,7 @@ run-action-run-simple-requires t c κs =
 pub run-action-returns-2 : (t : ℕ) → run-action-lts.Need-returns-2 (run-action-calls t) (run-action-at t) run-action.Post
 run-action-returns-2 t c =
     record {
+      told = c .run-both .ensures .told;
       result = both-way (c .before .before .before .before .before .before .before .before .before .before .before .before .pre .1 .0) _ (runOf (c .before .before .before .before .before .before .before .before .before .before .before .before .args .run .now)) (λ z. c .before .before .before .before .before .before .before .before .before .if1 .left (c .before .before .before .before .before .before .before .before .before .before .left .ensures ∙ z)) (paid (c .before .before .before .before .before .before .before .before .before .before .before .before .args .run .now) (c .before .before .before .before .before .before .before .charge .last .0) (c .before .before .before .before .before .before .before .before .before .before .before .before .pre .1 .1) (c .before .before .before .before .before .before .before .charge .ensures)) (c .before .before .before .before .before .row .ensures) (c .before .before .before .before .match .keys1) (c .run-both .ensures .result);
       run = c .run-both .ensures .run ∙ set-length (c .before .before .before .before .before .before .before .before .before .before .before .before .args .run .now) _ _ _ (c .before .before .before .before .before .before .before .charge .ensures);
       store = c .run-both .ensures .store;
@@ -79,6 +81,7 @@ run-action-returns-2 t c =
 pub run-action-returns-3 : (t : ℕ) → run-action-lts.Need-returns-3 (run-action-calls t) (run-action-at t) run-action.Post
 run-action-returns-3 t c =
     record {
+      told = c .run-select .ensures .told;
       result = select-way (c .before .before .before .before .before .before .before .before .before .before .before .before .pre .1 .0) _ (runOf (c .before .before .before .before .before .before .before .before .before .before .before .before .args .run .now)) (λ z. c .before .before .before .before .before .before .before .before .before .if1 .left (c .before .before .before .before .before .before .before .before .before .before .left .ensures ∙ z)) (paid (c .before .before .before .before .before .before .before .before .before .before .before .before .args .run .now) (c .before .before .before .before .before .before .before .charge .last .0) (c .before .before .before .before .before .before .before .before .before .before .before .before .pre .1 .1) (c .before .before .before .before .before .before .before .charge .ensures)) (c .before .before .before .before .before .row .ensures) (c .before .before .before .before .match .keys2) (c .run-select .ensures .result);
       run = c .run-select .ensures .run ∙ set-length (c .before .before .before .before .before .before .before .before .before .before .before .before .args .run .now) _ _ _ (c .before .before .before .before .before .before .before .charge .ensures);
       store = c .run-select .ensures .store;
@@ -88,6 +91,7 @@ run-action-returns-3 t c =
 pub run-action-returns-4 : (t : ℕ) → run-action-lts.Need-returns-4 (run-action-calls t) (run-action-at t) run-action.Post
 run-action-returns-4 t c =
     record {
+      told = c .run-case .ensures .told;
       result = case-way (c .before .before .before .before .before .before .before .before .before .before .before .before .pre .1 .0) _ (runOf (c .before .before .before .before .before .before .before .before .before .before .before .before .args .run .now)) (λ z. c .before .before .before .before .before .before .before .before .before .if1 .left (c .before .before .before .before .before .before .before .before .before .before .left .ensures ∙ z)) (paid (c .before .before .before .before .before .before .before .before .before .before .before .before .args .run .now) (c .before .before .before .before .before .before .before .charge .last .0) (c .before .before .before .before .before .before .before .before .before .before .before .before .pre .1 .1) (c .before .before .before .before .before .before .before .charge .ensures)) (c .before .before .before .before .before .row .ensures) (c .before .before .before .before .match .keys3) (c .run-case .ensures .result);
       run = c .run-case .ensures .run ∙ set-length (c .before .before .before .before .before .before .before .before .before .before .before .before .args .run .now) _ _ _ (c .before .before .before .before .before .before .before .charge .ensures);
       store = c .run-case .ensures .store;
@@ -97,6 +101,7 @@ run-action-returns-4 t c =
 pub run-action-returns-5 : (t : ℕ) → run-action-lts.Need-returns-5 (run-action-calls t) (run-action-at t) run-action.Post
 run-action-returns-5 t c =
     record {
+      told = c .run-while .ensures .told;
       result = while-way (c .before .before .before .before .before .before .before .before .before .before .before .before .pre .1 .0) _ (runOf (c .before .before .before .before .before .before .before .before .before .before .before .before .args .run .now)) (λ z. c .before .before .before .before .before .before .before .before .before .if1 .left (c .before .before .before .before .before .before .before .before .before .before .left .ensures ∙ z)) (paid (c .before .before .before .before .before .before .before .before .before .before .before .before .args .run .now) (c .before .before .before .before .before .before .before .charge .last .0) (c .before .before .before .before .before .before .before .before .before .before .before .before .pre .1 .1) (c .before .before .before .before .before .before .before .charge .ensures)) (c .before .before .before .before .before .row .ensures) (c .before .before .before .before .match .keys4) (c .run-while .ensures .result);
       run = c .run-while .ensures .run ∙ set-length (c .before .before .before .before .before .before .before .before .before .before .before .before .args .run .now) _ _ _ (c .before .before .before .before .before .before .before .charge .ensures);
       store = c .run-while .ensures .store;
@@ -106,6 +111,7 @@ run-action-returns-5 t c =
 pub run-action-returns-6 : (t : ℕ) → run-action-lts.Need-returns-6 (run-action-calls t) (run-action-at t) run-action.Post
 run-action-returns-6 t c =
     record {
+      told = c .run-for .ensures .told;
       result = for-way (c .before .before .before .before .before .before .before .before .before .before .before .before .pre .1 .0) _ (runOf (c .before .before .before .before .before .before .before .before .before .before .before .before .args .run .now)) (λ z. c .before .before .before .before .before .before .before .before .before .if1 .left (c .before .before .before .before .before .before .before .before .before .before .left .ensures ∙ z)) (paid (c .before .before .before .before .before .before .before .before .before .before .before .before .args .run .now) (c .before .before .before .before .before .before .before .charge .last .0) (c .before .before .before .before .before .before .before .before .before .before .before .before .pre .1 .1) (c .before .before .before .before .before .before .before .charge .ensures)) (c .before .before .before .before .before .row .ensures) (c .before .before .before .before .match .keys5) (c .run-for .ensures .result);
       run = c .run-for .ensures .run ∙ set-length (c .before .before .before .before .before .before .before .before .before .before .before .before .args .run .now) _ _ _ (c .before .before .before .before .before .before .before .charge .ensures);
       store = c .run-for .ensures .store;
@@ -115,6 +121,7 @@ run-action-returns-6 t c =
 pub run-action-returns-7 : (t : ℕ) → run-action-lts.Need-returns-7 (run-action-calls t) (run-action-at t) run-action.Post
 run-action-returns-7 t c =
     record {
+      told = c .run-simple .ensures .told;
       result = simple-way (c .before .before .before .before .before .before .before .before .before .before .before .before .before .pre .1 .0) _ (runOf (c .before .before .before .before .before .before .before .before .before .before .before .before .before .args .run .now)) (λ z. c .before .before .before .before .before .before .before .before .before .before .if1 .left (c .before .before .before .before .before .before .before .before .before .before .before .left .ensures ∙ z)) (paid (c .before .before .before .before .before .before .before .before .before .before .before .before .before .args .run .now) (c .before .before .before .before .before .before .before .before .charge .last .0) (c .before .before .before .before .before .before .before .before .before .before .before .before .before .pre .1 .1) (c .before .before .before .before .before .before .before .before .charge .ensures)) (c .run-simple .ensures .result);
       run = c .run-simple .ensures .run ∙ set-length (c .before .before .before .before .before .before .before .before .before .before .before .before .before .args .run .now) _ _ _ (c .before .before .before .before .before .before .before .before .charge .ensures);
       store = c .run-simple .ensures .store;
@@ -128,6 +135,7 @@ run-both-run-action-requires t c κs =
 pub run-both-returns : (t : ℕ) → run-both-lts.Need-returns (run-both-calls t) (run-both-at t) run-both.Post
 run-both-returns t c =
     record {
+      told = c .before .run-action .ensures .told;
       result = both-stops _ (c .before .run-action .ensures .result) (out-over _ (c .if1 .taken));
       run = c .before .run-action .ensures .run;
       store = c .before .run-action .ensures .store;
@@ -141,6 +149,7 @@ run-both-run-action-requires-2 t c κs =
 pub run-both-returns-2 : (t : ℕ) → run-both-lts.Need-returns-2 (run-both-calls t) (run-both-at t) run-both.Post
 run-both-returns-2 t c =
     record {
+      told = c .run-action2 .ensures .told;
       result = both-ends _ (c .before .before .before .before .before .run-action .ensures .result) (sym (ends-at _ (c .before .before .before .before .if1 .left))) (c .run-action2 .ensures .result);
       run = c .run-action2 .ensures .run ∙ c .before .before .before .before .before .run-action .ensures .run;
       store = c .run-action2 .ensures .store ∙ c .before .before .before .before .before .run-action .ensures .store;

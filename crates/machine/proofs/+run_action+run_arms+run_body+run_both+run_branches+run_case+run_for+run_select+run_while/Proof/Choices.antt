@@ -12,6 +12,7 @@ use Rattle.model.specs.Decode.{actionAt, listAt, branchesOf}
 use Rattle.model.specs.Run.{execBranch}
 use Rattle.actions.specs.State.{stateOf}
 use Rattle.told.specs.Told.{runOf}
+use Rattle.told.proofs.Coded.{told-by}
 use Rattle.machine.specs.Running.{RunningList}
 use Rattle.machine.proofs.Parts.{runs, same-store, first-row}
 use Rattle.machine.proofs.Ways.{branch-action, heard-left, branch-over, branch-rest, branch-first, branch-next, select-none, select-ended, select-negative, select-branch}
@@ -34,7 +35,8 @@ run-select-blocked-requires t c κs =
 pub run-select-returns : (t : ℕ) → run-select-lts.Need-returns (run-select-calls t) (run-select-at t) run-select.Post
 run-select-returns t c =
     record {
-      result = select-none (c .before .before .before .pre .1 .0) _ _ (runOf (c .before .before .before .args .run .now)) (c .before .before .if1 .taken) (told-as (runOf (c .before .before .before .args .run .now)) (c .blocked .ensures));
+      told = told-by (c .blocked .ensures);
+      result = select-none (c .before .before .before .pre .1 .0) _ _ (runOf (c .before .before .before .args .run .now)) (c .before .before .if1 .taken) (told-as (runOf (c .before .before .before .args .run .now)) (c .blocked .ensures .outcome));
       run = refl;
       store = refl;
       values = refl;
@@ -55,6 +57,7 @@ run-select-stopped-requires t c κs =
 pub run-select-returns-2 : (t : ℕ) → run-select-lts.Need-returns-2 (run-select-calls t) (run-select-at t) run-select.Post
 run-select-returns-2 t c =
     record {
+      told = told-by (c .stopped .ensures);
       result = select-ended (c .before .before .before .before .before .before .before .pre .1 .0) _ _ (runOf (c .before .before .before .before .before .before .before .args .run .now)) (c .before .before .before .before .before .before .if1 .left) (omega (arith, (leb-true (length (c .before .before .before .before .before .before .before .args .script .now .now) / 4) (c .before .before .before .before .words .result) (sym (c .before .before .no-word .ensures .0) ∙ c .before .if2 .taken)), c .before .before .before .before .words .ensures)) (told-as (runOf (c .before .before .before .before .before .before .before .args .run .now)) (c .stopped .ensures .outcome));
       run = refl;
       store = refl;
@@ -76,6 +79,7 @@ run-select-stopped-requires-2 t c κs =
 pub run-select-returns-3 : (t : ℕ) → run-select-lts.Need-returns-3 (run-select-calls t) (run-select-at t) run-select.Post
 run-select-returns-3 t c =
     record {
+      told = told-by (c .stopped2 .ensures);
       result = select-negative (c .before .before .before .before .before .before .before .before .before .before .before .before .pre .1 .0) _ _ (runOf (c .before .before .before .before .before .before .before .before .before .before .before .before .args .run .now)) (c .before .before .before .before .before .before .before .before .before .before .before .if1 .left) (omega (arith, (leb-false (length (c .before .before .before .before .before .before .before .before .before .before .before .before .args .script .now .now) / 4) (c .before .before .before .before .before .before .before .before .before .words .result) (sym (c .before .before .before .before .before .before .before .no-word .ensures .0) ∙ c .before .before .before .before .before .before .if2 .left)), c .before .before .before .before .before .before .before .before .before .words .ensures)) (held-is (c .before .before .before .before .word .result) (c .before .before .before .before .word .ok) ∙ c .before .before .before .before .word .ensures ∙ ap (wordAt (c .before .before .before .before .before .before .before .before .before .before .before .before .args .script .now .now)) (c .before .before .before .before .before .before .before .before .before .words .ensures)) (heard (c .before .before .before .before .before .before .before .before .before .before .before .before .args .run .now) (c .before .before .hear .last .0) (c .before .before .before .before .before .before .before .before .before .before .before .before .pre .1 .1) (c .before .before .hear .ensures)) (c .before .if3 .taken) (told-as (runOf (c .before .before .hear .last .0)) (c .stopped2 .ensures .outcome));
       run = set-length (c .before .before .before .before .before .before .before .before .before .before .before .before .args .run .now) _ _ _ (c .before .before .hear .ensures);
       store = refl;
@@ -93,6 +97,7 @@ run-select-run-branches-requires t c κs =
 pub run-select-returns-4 : (t : ℕ) → run-select-lts.Need-returns-4 (run-select-calls t) (run-select-at t) run-select.Post
 run-select-returns-4 t c =
     record {
+      told = c .run-branches .ensures .told;
       result = select-branch (c .before .before .before .before .before .before .before .before .before .before .before .before .before .before .before .before .pre .1 .0) _ _ (runOf (c .before .before .before .before .before .before .before .before .before .before .before .before .before .before .before .before .args .run .now)) (c .before .before .before .before .before .before .before .before .before .before .before .before .before .before .before .if1 .left) (omega (arith, (leb-false (length (c .before .before .before .before .before .before .before .before .before .before .before .before .before .before .before .before .args .script .now .now) / 4) (c .before .before .before .before .before .before .before .before .before .before .before .before .before .words .result) (sym (c .before .before .before .before .before .before .before .before .before .before .before .no-word .ensures .0) ∙ c .before .before .before .before .before .before .before .before .before .before .if2 .left)), c .before .before .before .before .before .before .before .before .before .before .before .before .before .words .ensures)) (held-is (c .before .before .before .before .before .before .before .before .word .result) (c .before .before .before .before .before .before .before .before .word .ok) ∙ c .before .before .before .before .before .before .before .before .word .ensures ∙ ap (wordAt (c .before .before .before .before .before .before .before .before .before .before .before .before .before .before .before .before .args .script .now .now)) (c .before .before .before .before .before .before .before .before .before .before .before .before .before .words .ensures)) (heard (c .before .before .before .before .before .before .before .before .before .before .before .before .before .before .before .before .args .run .now) (c .before .before .before .before .before .before .hear .last .0) (c .before .before .before .before .before .before .before .before .before .before .before .before .before .before .before .before .pre .1 .1) (c .before .before .before .before .before .before .hear .ensures)) (c .before .before .before .before .before .if3 .left) (c .before .before .before .before .size .ensures) (c .run-branches .ensures .result);
       run = c .run-branches .ensures .run ∙ set-length (c .before .before .before .before .before .before .before .before .before .before .before .before .before .before .before .before .args .run .now) _ _ _ (c .before .before .before .before .before .before .hear .ensures);
       store = c .run-branches .ensures .store;
@@ -119,6 +124,7 @@ run-branches-stopped-requires t c κs =
 pub run-branches-returns : (t : ℕ) → run-branches-lts.Need-returns (run-branches-calls t) (run-branches-at t) run-branches.Post run-branches-Inv-loop run-branches-μ-loop
 run-branches-returns t c =
     record {
+      told = told-by (c .stopped .ensures);
       result = branch-over (c .before .before .loop .inv .3) _ _ _ _ (c .before .if1 .taken) (run-same (told-as _ (c .stopped .ensures .outcome)) (c .before .before .loop .inv .0) (c .before .before .loop .inv .1) (c .before .before .loop .inv .2)) ∙ c .before .before .loop .inv .4;
       run = ap length (c .before .before .loop .inv .2);
       store = ap length (c .before .before .loop .inv .0);
@@ -136,6 +142,7 @@ run-branches-run-action-requires t c κs =
 pub run-branches-returns-2 : (t : ℕ) → run-branches-lts.Need-returns-2 (run-branches-calls t) (run-branches-at t) run-branches.Post run-branches-Inv-loop run-branches-μ-loop
 run-branches-returns-2 t c =
     record {
+      told = c .run-action .ensures .told;
       result = branch-first (c .before .before .before .before .before .before .before .before .loop .inv .3) _ _ _ (c .before .before .before .before .before .before .before .if1 .left) (c .before .before .before .before .before .row .ensures) (c .before .before .before .before .if2 .taken) (c .run-action .ensures .result ∙ from-same _ _ _ (c .before .before .before .before .before .before .before .before .loop .inv .0) (c .before .before .before .before .before .before .before .before .loop .inv .1) (c .before .before .before .before .before .before .before .before .loop .inv .2)) ∙ c .before .before .before .before .before .before .before .before .loop .inv .4;
       run = c .run-action .ensures .run ∙ ap length (c .before .before .before .before .before .before .before .before .loop .inv .2);
       store = c .run-action .ensures .store ∙ ap length (c .before .before .before .before .before .before .before .before .loop .inv .0);
@@ -181,6 +188,7 @@ run-case-stopped-requires t c κs =
 pub run-case-returns : (t : ℕ) → run-case-lts.Need-returns (run-case-calls t) (run-case-at t) run-case.Post
 run-case-returns t c =
     record {
+      told = c .run-arms .ensures .told;
       result = case-is (c .before .before .before .before .before .before .before .before .before .before .pre .1 .0) _ _ (runOf (c .before .before .before .before .before .before .before .before .before .before .args .run .now)) (c .before .before .before .before .before .before .before .eval-on .ensures .0) (c .before .before .before .before .before .z .given .1) (rw (c .before .before .before .before .before .before .before .eval-on .ensures .1) at (c .run-arms .ensures .result));
       run = c .run-arms .ensures .run;
       store = c .run-arms .ensures .store ∙ ap length (c .before .before .before .before .before .before .before .eval-on .ensures .1);
@@ -190,6 +198,7 @@ run-case-returns t c =
 pub run-case-returns-2 : (t : ℕ) → run-case-lts.Need-returns-2 (run-case-calls t) (run-case-at t) run-case.Post
 run-case-returns-2 t c =
     record {
+      told = told-by (c .stopped .ensures);
       result = rw (c .before .before .before .eval-on .ensures .1) (case-unknown (c .before .before .before .before .before .before .pre .1 .0) _ _ (runOf (c .before .before .before .before .before .before .args .run .now)) (c .before .before .before .eval-on .ensures .0) (c .before .enum-told .given .1) (told-as (runOf (c .before .before .before .before .before .before .args .run .now)) (c .stopped .ensures .outcome)));
       run = refl;
       store = ap length (c .before .before .before .eval-on .ensures .1);
@@ -231,6 +240,7 @@ run-arms-stopped-requires t c κs =
 pub run-arms-returns : (t : ℕ) → run-arms-lts.Need-returns (run-arms-calls t) (run-arms-at t) run-arms.Post
 run-arms-returns t c =
     record {
+      told = c .run-action .ensures .told;
       result = arm-found (c .before .before .before .before .before .before .before .before .before .before .pre .1 .0) (c .before .before .before .before .before .before .before .find-arm .ensures) _ _ (runOf (c .before .before .before .before .before .before .before .before .before .before .args .run .now)) (c .before .before .before .before .before .a .given .1) (c .run-action .ensures .result);
       run = c .run-action .ensures .run;
       store = c .run-action .ensures .store ∙ c .before .before .before .before .before .before .before .find-arm .kept .1 .1 .1 .1 .0;
@@ -240,7 +250,8 @@ run-arms-returns t c =
 pub run-arms-returns-2 : (t : ℕ) → run-arms-lts.Need-returns-2 (run-arms-calls t) (run-arms-at t) run-arms.Post
 run-arms-returns-2 t c =
     record {
-      result = arm-none (c .before .before .before .before .before .before .before .pre .1 .0) (c .before .before .before .before .find-arm .ensures) _ _ (runOf (c .before .before .before .before .before .before .before .args .run .now)) (c .before .before .enum-told .given .1) (told-as (runOf (c .before .before .before .before .before .before .before .args .run .now)) (c .blocked .ensures));
+      told = told-by (c .blocked .ensures);
+      result = arm-none (c .before .before .before .before .before .before .before .pre .1 .0) (c .before .before .before .before .find-arm .ensures) _ _ (runOf (c .before .before .before .before .before .before .before .args .run .now)) (c .before .before .enum-told .given .1) (told-as (runOf (c .before .before .before .before .before .before .before .args .run .now)) (c .blocked .ensures .outcome));
       run = refl;
       store = c .before .before .before .before .find-arm .kept .1 .1 .1 .1 .0;
       values = refl;
@@ -249,6 +260,7 @@ run-arms-returns-2 t c =
 pub run-arms-returns-3 : (t : ℕ) → run-arms-lts.Need-returns-3 (run-arms-calls t) (run-arms-at t) run-arms.Post
 run-arms-returns-3 t c =
     record {
+      told = told-by (c .stopped .ensures);
       result = arm-unsure (c .before .before .before .before .before .before .pre .1 .0) (c .before .before .before .find-arm .ensures) _ _ (runOf (c .before .before .before .before .before .before .args .run .now)) (c .before .enum-told2 .given .1) (told-as (runOf (c .before .before .before .before .before .before .args .run .now)) (c .stopped .ensures .outcome));
       run = refl;
       store = c .before .before .before .find-arm .kept .1 .1 .1 .1 .0;

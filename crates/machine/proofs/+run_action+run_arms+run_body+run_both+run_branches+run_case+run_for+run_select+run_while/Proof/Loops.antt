@@ -6,7 +6,7 @@ use borrow.Author.Needs.{needs}
 use lib.{ListN.length, ListN.length-set}
 use Rattle.values.proofs.Held.{held-is}
 use Rattle.told.specs.Told.{runOf, ranOf}
-use Rattle.told.proofs.Coded.{ends-at, out-over, out-ends}
+use Rattle.told.proofs.Coded.{ends-at, out-over, out-ends, told-by, told-ends}
 use Rattle.machine.proofs.Loops.{Whiles, while-first, while-test, while-ends, while-unsure, while-stops, while-less, while-more, Fors, for-range, for-slot, for-first, for-is, for-ends, for-unsure, slot-of, for-stops, for-less, for-more}
 use Rattle.machine.proofs.Parts.{runs, row-of}
 use Rattle.machine.proofs.Ways.{spent-way, simple-way}
@@ -42,6 +42,7 @@ run-body-stopped-requires t c κs =
 pub run-body-returns-2 : (t : ℕ) → run-body-lts.Need-returns-2 (run-body-calls t) (run-body-at t) run-body.Post
 run-body-returns-2 t c =
     record {
+      told = told-by (c .stopped .ensures);
       result = spent-way (c .before .before .before .before .before .before .before .before .pre .1 .0) _ (runOf (c .before .before .before .before .before .before .before .before .args .run .now)) (sym (c .before .before .left .ensures) ∙ c .before .if2 .taken) (told-as (runOf (c .before .before .before .before .before .before .before .before .args .run .now)) (c .stopped .ensures .outcome));
       run = refl;
       store = refl;
@@ -55,6 +56,7 @@ run-body-charge-requires t c κs =
 pub run-body-returns-3 : (t : ℕ) → run-body-lts.Need-returns-3 (run-body-calls t) (run-body-at t) run-body.Post
 run-body-returns-3 t c =
     record {
+      told = told-ends;
       result = simple-way (c .before .before .before .before .before .before .before .before .before .pre .1 .0) _ (runOf (c .before .before .before .before .before .before .before .before .before .args .run .now)) (λ z. c .before .before .if2 .left (c .before .before .before .left .ensures ∙ z)) (paid (c .before .before .before .before .before .before .before .before .before .args .run .now) (c .charge .last .0) (c .before .before .before .before .before .before .before .before .before .pre .1 .1) (c .charge .ensures)) (null-told (runs (c .before .before .before .before .before .before .before .before .before .pre .1 .0)) (c .before .before .before .before .before .before .before .row .ensures) (c .charge .last .0) (c .before .before .before .before .before .before .before .before .before .args .values .now) (c .before .before .before .before .before .before .before .before .before .args .script .now .now) (c .before .before .before .before .before .if1 .left));
       run = set-length (c .before .before .before .before .before .before .before .before .before .args .run .now) _ _ _ (c .charge .ensures);
       store = refl;
@@ -88,6 +90,7 @@ run-while-enum-told t c =
 pub run-while-returns : (t : ℕ) → run-while-lts.Need-returns (run-while-calls t) (run-while-at t) run-while.Post run-while-Inv-loop run-while-μ-loop
 run-while-returns t c =
     record {
+      told = told-ends;
       result = rw (c .before .before .test-on .ensures .1) (while-ends (c .before .before .before .before .before .loop .inv .0) (c .before .before .test-on .ensures .0) (c .enum-told .given .1) (told-as (runOf (c .before .before .before .before .before .loop .run)) out-ends));
       run = c .before .before .before .before .before .loop .inv .1;
       store = ap length (c .before .before .test-on .ensures .1) ∙ c .before .before .before .before .before .loop .inv .0 .store;
@@ -105,6 +108,7 @@ run-while-stopped-requires t c κs =
 pub run-while-returns-2 : (t : ℕ) → run-while-lts.Need-returns-2 (run-while-calls t) (run-while-at t) run-while.Post run-while-Inv-loop run-while-μ-loop
 run-while-returns-2 t c =
     record {
+      told = told-by (c .stopped .ensures);
       result = rw (c .before .before .before .test-on .ensures .1) (while-unsure (c .before .before .before .before .before .before .loop .inv .0) (c .before .before .before .test-on .ensures .0) (c .before .enum-told2 .given .1) (told-as (runOf (c .before .before .before .before .before .before .loop .run)) (c .stopped .ensures .outcome)));
       run = c .before .before .before .before .before .before .loop .inv .1;
       store = ap length (c .before .before .before .test-on .ensures .1) ∙ c .before .before .before .before .before .before .loop .inv .0 .store;
@@ -121,24 +125,25 @@ run-while-run-body-requires t c κs =
 
 pub run-while-again-requires : (t : ℕ) → run-while-lts.Need-again-requires (run-while-calls t) (run-while-at t) run-while.Post run-while-Inv-loop run-while-μ-loop
 run-while-again-requires t c κs =
-    omega (arith, c .before .run-body .ensures .run, c .before .before .before .before .before .before .before .before .before .before .loop .inv .1, c .before .before .before .before .before .before .before .before .before .before .before .pre .1 .1)
+    (c .before .run-body .ensures .told, omega (arith, c .before .run-body .ensures .run, c .before .before .before .before .before .before .before .before .before .before .loop .inv .1, c .before .before .before .before .before .before .before .before .before .before .before .pre .1 .1))
 
 pub run-while-returns-3 : (t : ℕ) → run-while-lts.Need-returns-3 (run-while-calls t) (run-while-at t) run-while.Post run-while-Inv-loop run-while-μ-loop
 run-while-returns-3 t c =
     record {
-      result = while-stops (c .before .before .before .before .before .before .before .before .before .before .before .before .loop .inv .0) (c .before .before .before .before .before .before .before .before .before .test-on .ensures .0) (c .before .before .before .before .before .before .before .enum-told3 .given .1) _ _ (c .before .again .ensures .0) (rw (c .before .before .before .before .before .before .before .before .before .test-on .ensures .1) at (c .before .before .before .run-body .ensures .result)) (out-over _ (c .if1 .taken));
-      run = c .before .again .ensures .1 ∙ c .before .before .before .run-body .ensures .run ∙ c .before .before .before .before .before .before .before .before .before .before .before .before .loop .inv .1;
+      told = c .before .again .ensures .0;
+      result = while-stops (c .before .before .before .before .before .before .before .before .before .before .before .before .loop .inv .0) (c .before .before .before .before .before .before .before .before .before .test-on .ensures .0) (c .before .before .before .before .before .before .before .enum-told3 .given .1) _ _ (c .before .again .ensures .1) (rw (c .before .before .before .before .before .before .before .before .before .test-on .ensures .1) at (c .before .before .before .run-body .ensures .result)) (out-over _ (c .if1 .taken));
+      run = c .before .again .ensures .2 ∙ c .before .before .before .run-body .ensures .run ∙ c .before .before .before .before .before .before .before .before .before .before .before .before .loop .inv .1;
       store = c .before .before .before .run-body .ensures .store ∙ ap length (c .before .before .before .before .before .before .before .before .before .test-on .ensures .1) ∙ c .before .before .before .before .before .before .before .before .before .before .before .before .loop .inv .0 .store;
       values = c .before .before .before .run-body .ensures .values ∙ c .before .before .before .before .before .before .before .before .before .before .before .before .loop .inv .0 .buffer;
     }
 
 pub run-while-loop-less : (t : ℕ) → run-while-lts.Need-loop-less (run-while-calls t) (run-while-at t) run-while.Post run-while-Inv-loop run-while-μ-loop
 run-while-loop-less t c =
-    while-less (c .before .before .before .before .before .before .before .before .before .before .before .before .loop .inv .0) (c .before .before .before .before .before .before .before .before .before .test-on .ensures .0) (c .before .before .before .before .before .before .before .enum-told3 .given .1) _ _ (c .before .again .ensures .0) (rw (c .before .before .before .before .before .before .before .before .before .test-on .ensures .1) at (c .before .before .before .run-body .ensures .result)) (sym (ends-at _ (c .if1 .left)))
+    while-less (c .before .before .before .before .before .before .before .before .before .before .before .before .loop .inv .0) (c .before .before .before .before .before .before .before .before .before .test-on .ensures .0) (c .before .before .before .before .before .before .before .enum-told3 .given .1) _ _ (c .before .again .ensures .1) (rw (c .before .before .before .before .before .before .before .before .before .test-on .ensures .1) at (c .before .before .before .run-body .ensures .result)) (sym (ends-at _ (c .if1 .left)))
 
 pub run-while-loop-again : (t : ℕ) → run-while-lts.Need-loop-again (run-while-calls t) (run-while-at t) run-while.Post run-while-Inv-loop run-while-μ-loop
 run-while-loop-again t c =
-    (while-more (c .before .before .before .before .before .before .before .before .before .before .before .before .loop .inv .0) (c .before .before .before .before .before .before .before .before .before .test-on .ensures .0) (c .before .before .before .before .before .before .before .enum-told3 .given .1) _ _ (c .before .again .ensures .0) (rw (c .before .before .before .before .before .before .before .before .before .test-on .ensures .1) at (c .before .before .before .run-body .ensures .result)) (sym (ends-at _ (c .if1 .left))) (c .before .before .before .run-body .ensures .store ∙ ap length (c .before .before .before .before .before .before .before .before .before .test-on .ensures .1)) (c .before .before .before .run-body .ensures .values), c .before .again .ensures .1 ∙ c .before .before .before .run-body .ensures .run ∙ c .before .before .before .before .before .before .before .before .before .before .before .before .loop .inv .1)
+    (while-more (c .before .before .before .before .before .before .before .before .before .before .before .before .loop .inv .0) (c .before .before .before .before .before .before .before .before .before .test-on .ensures .0) (c .before .before .before .before .before .before .before .enum-told3 .given .1) _ _ (c .before .again .ensures .1) (rw (c .before .before .before .before .before .before .before .before .before .test-on .ensures .1) at (c .before .before .before .run-body .ensures .result)) (sym (ends-at _ (c .if1 .left))) (c .before .before .before .run-body .ensures .store ∙ ap length (c .before .before .before .before .before .before .before .before .before .test-on .ensures .1)) (c .before .before .before .run-body .ensures .values), c .before .again .ensures .2 ∙ c .before .before .before .run-body .ensures .run ∙ c .before .before .before .before .before .before .before .before .before .before .before .before .loop .inv .1)
 
 abbrev pub run-for-Inv-loop : run-for-lts.InvT-loop
 run-for-Inv-loop image rows r g a store₀ script values₀ run₀ v high store values run =
@@ -191,6 +196,7 @@ run-for-enum-told t c =
 pub run-for-returns : (t : ℕ) → run-for-lts.Need-returns (run-for-calls t) (run-for-at t) run-for.Post run-for-Inv-loop run-for-μ-loop
 run-for-returns t c =
     record {
+      told = told-ends;
       result = for-is (c .before .before .before .before .before .before .before .before .before .pre .1 .0) _ (runOf (c .before .before .before .before .before .before .before .before .before .args .run .now)) (c .before .before .before .before .before .before .before .row .ensures) (held-is (c .before .before .before .before .before .signed2 .result) (c .before .before .before .before .before .signed2 .ok) ∙ c .before .before .before .before .before .signed2 .ensures) (rw (c .before .before .at-most .ensures .1) (for-ends (c .before .before .before .before .loop .inv .0) (c .before .before .before .before .before .before .before .row .ensures) (held-is (c .before .before .before .before .before .before .signed .result) (c .before .before .before .before .before .before .signed .ok) ∙ c .before .before .before .before .before .before .signed .ensures) (c .before .before .at-most .ensures .0) (c .enum-told .given .1) (told-as (runOf (c .before .before .before .before .loop .run)) out-ends)));
       run = c .before .before .before .before .loop .inv .1;
       store = ap length (c .before .before .at-most .ensures .1) ∙ c .before .before .before .before .loop .inv .0 .store ∙ simp length-set;
@@ -208,6 +214,7 @@ run-for-stopped-requires t c κs =
 pub run-for-returns-2 : (t : ℕ) → run-for-lts.Need-returns-2 (run-for-calls t) (run-for-at t) run-for.Post run-for-Inv-loop run-for-μ-loop
 run-for-returns-2 t c =
     record {
+      told = told-by (c .stopped .ensures);
       result = for-is (c .before .before .before .before .before .before .before .before .before .before .pre .1 .0) _ (runOf (c .before .before .before .before .before .before .before .before .before .before .args .run .now)) (c .before .before .before .before .before .before .before .before .row .ensures) (held-is (c .before .before .before .before .before .before .signed2 .result) (c .before .before .before .before .before .before .signed2 .ok) ∙ c .before .before .before .before .before .before .signed2 .ensures) (rw (c .before .before .before .at-most .ensures .1) (for-unsure (c .before .before .before .before .before .loop .inv .0) (c .before .before .before .before .before .before .before .before .row .ensures) (held-is (c .before .before .before .before .before .before .before .signed .result) (c .before .before .before .before .before .before .before .signed .ok) ∙ c .before .before .before .before .before .before .before .signed .ensures) (c .before .before .before .at-most .ensures .0) (c .before .enum-told2 .given .1) (told-as (runOf (c .before .before .before .before .before .loop .run)) (c .stopped .ensures .outcome))));
       run = c .before .before .before .before .before .loop .inv .1;
       store = ap length (c .before .before .before .at-most .ensures .1) ∙ c .before .before .before .before .before .loop .inv .0 .store ∙ simp length-set;
@@ -228,25 +235,26 @@ run-for-slice-aggregate-onward t c =
 
 pub run-for-onward-requires : (t : ℕ) → run-for-lts.Need-onward-requires (run-for-calls t) (run-for-at t) run-for.Post run-for-Inv-loop run-for-μ-loop
 run-for-onward-requires t c κs =
-    slot-of (c .before .before .before .before .before .before .before .before .before .loop .inv .0) (c .before .before .before .before .before .before .before .before .before .before .before .before .row .ensures) _ _ (ranOf (c .before .run-body .result) (c .before .run-body .last .1 .1 .1 .1 .1 .1 .0)) (rw (c .before .before .before .before .before .before .before .at-most .ensures .1) at (c .before .run-body .ensures .result)) (c .before .run-body .ensures .store ∙ ap length (c .before .before .before .before .before .before .before .at-most .ensures .1))
+    (c .before .run-body .ensures .told, slot-of (c .before .before .before .before .before .before .before .before .before .loop .inv .0) (c .before .before .before .before .before .before .before .before .before .before .before .before .row .ensures) _ _ (ranOf (c .before .run-body .result) (c .before .run-body .last .1 .1 .1 .1 .1 .1 .0)) (rw (c .before .before .before .before .before .before .before .at-most .ensures .1) at (c .before .run-body .ensures .result)) (c .before .run-body .ensures .store ∙ ap length (c .before .before .before .before .before .before .before .at-most .ensures .1)))
 
 pub run-for-again-requires : (t : ℕ) → run-for-lts.Need-again-requires (run-for-calls t) (run-for-at t) run-for.Post run-for-Inv-loop run-for-μ-loop
 run-for-again-requires t c κs =
-    omega (arith, c .before .before .before .run-body .ensures .run, c .before .before .before .before .before .before .before .before .before .before .before .loop .inv .1, c .before .before .before .before .before .before .before .before .before .before .before .before .before .before .before .before .pre .1 .1)
+    (c .before .onward .ensures .0, omega (arith, c .before .before .before .run-body .ensures .run, c .before .before .before .before .before .before .before .before .before .before .before .loop .inv .1, c .before .before .before .before .before .before .before .before .before .before .before .before .before .before .before .before .pre .1 .1))
 
 pub run-for-returns-3 : (t : ℕ) → run-for-lts.Need-returns-3 (run-for-calls t) (run-for-at t) run-for.Post run-for-Inv-loop run-for-μ-loop
 run-for-returns-3 t c =
     record {
-      result = for-is (c .before .before .before .before .before .before .before .before .before .before .before .before .before .before .before .before .before .before .pre .1 .0) _ (runOf (c .before .before .before .before .before .before .before .before .before .before .before .before .before .before .before .before .before .before .args .run .now)) (c .before .before .before .before .before .before .before .before .before .before .before .before .before .before .before .before .row .ensures) (held-is (c .before .before .before .before .before .before .before .before .before .before .before .before .before .before .signed2 .result) (c .before .before .before .before .before .before .before .before .before .before .before .before .before .before .signed2 .ok) ∙ c .before .before .before .before .before .before .before .before .before .before .before .before .before .before .signed2 .ensures) (for-stops (c .before .before .before .before .before .before .before .before .before .before .before .before .before .loop .inv .0) (c .before .before .before .before .before .before .before .before .before .before .before .before .before .before .before .before .row .ensures) _ _ (ranOf (c .before .before .before .before .before .run-body .result) (c .before .before .before .before .before .run-body .last .1 .1 .1 .1 .1 .1 .0)) (rw (c .before .before .before .before .before .before .before .before .before .before .before .at-most .ensures .1) at (c .before .before .before .before .before .run-body .ensures .result)) (held-is (c .before .before .before .before .before .before .before .before .before .before .before .before .before .before .before .signed .result) (c .before .before .before .before .before .before .before .before .before .before .before .before .before .before .before .signed .ok) ∙ c .before .before .before .before .before .before .before .before .before .before .before .before .before .before .before .signed .ensures) (c .before .before .before .before .before .before .before .before .before .before .before .at-most .ensures .0) (c .before .before .before .before .before .before .before .before .before .enum-told3 .given .1) _ (c .before .before .before .onward .ensures) (c .before .again .ensures .0) (out-over _ (c .if1 .taken)));
-      run = c .before .again .ensures .1 ∙ c .before .before .before .before .before .run-body .ensures .run ∙ c .before .before .before .before .before .before .before .before .before .before .before .before .before .loop .inv .1;
+      told = c .before .again .ensures .0;
+      result = for-is (c .before .before .before .before .before .before .before .before .before .before .before .before .before .before .before .before .before .before .pre .1 .0) _ (runOf (c .before .before .before .before .before .before .before .before .before .before .before .before .before .before .before .before .before .before .args .run .now)) (c .before .before .before .before .before .before .before .before .before .before .before .before .before .before .before .before .row .ensures) (held-is (c .before .before .before .before .before .before .before .before .before .before .before .before .before .before .signed2 .result) (c .before .before .before .before .before .before .before .before .before .before .before .before .before .before .signed2 .ok) ∙ c .before .before .before .before .before .before .before .before .before .before .before .before .before .before .signed2 .ensures) (for-stops (c .before .before .before .before .before .before .before .before .before .before .before .before .before .loop .inv .0) (c .before .before .before .before .before .before .before .before .before .before .before .before .before .before .before .before .row .ensures) _ _ (ranOf (c .before .before .before .before .before .run-body .result) (c .before .before .before .before .before .run-body .last .1 .1 .1 .1 .1 .1 .0)) (rw (c .before .before .before .before .before .before .before .before .before .before .before .at-most .ensures .1) at (c .before .before .before .before .before .run-body .ensures .result)) (held-is (c .before .before .before .before .before .before .before .before .before .before .before .before .before .before .before .signed .result) (c .before .before .before .before .before .before .before .before .before .before .before .before .before .before .before .signed .ok) ∙ c .before .before .before .before .before .before .before .before .before .before .before .before .before .before .before .signed .ensures) (c .before .before .before .before .before .before .before .before .before .before .before .at-most .ensures .0) (c .before .before .before .before .before .before .before .before .before .enum-told3 .given .1) _ (c .before .before .before .onward .ensures .1) (c .before .again .ensures .1) (out-over _ (c .if1 .taken)));
+      run = c .before .again .ensures .2 ∙ c .before .before .before .before .before .run-body .ensures .run ∙ c .before .before .before .before .before .before .before .before .before .before .before .before .before .loop .inv .1;
       store = c .before .before .before .onward .kept .1 .1 .1 .0 ∙ c .before .before .before .before .before .run-body .ensures .store ∙ ap length (c .before .before .before .before .before .before .before .before .before .before .before .at-most .ensures .1) ∙ c .before .before .before .before .before .before .before .before .before .before .before .before .before .loop .inv .0 .store ∙ simp length-set;
       values = c .before .before .before .before .before .run-body .ensures .values ∙ c .before .before .before .before .before .before .before .before .before .before .before .before .before .loop .inv .0 .buffer;
     }
 
 pub run-for-loop-less : (t : ℕ) → run-for-lts.Need-loop-less (run-for-calls t) (run-for-at t) run-for.Post run-for-Inv-loop run-for-μ-loop
 run-for-loop-less t c =
-    for-less (c .before .before .before .before .before .before .before .before .before .before .before .before .before .loop .inv .0) (c .before .before .before .before .before .before .before .before .before .before .before .before .before .before .before .before .row .ensures) _ _ (ranOf (c .before .before .before .before .before .run-body .result) (c .before .before .before .before .before .run-body .last .1 .1 .1 .1 .1 .1 .0)) (rw (c .before .before .before .before .before .before .before .before .before .before .before .at-most .ensures .1) at (c .before .before .before .before .before .run-body .ensures .result)) (held-is (c .before .before .before .before .before .before .before .before .before .before .before .before .before .before .before .signed .result) (c .before .before .before .before .before .before .before .before .before .before .before .before .before .before .before .signed .ok) ∙ c .before .before .before .before .before .before .before .before .before .before .before .before .before .before .before .signed .ensures) (c .before .before .before .before .before .before .before .before .before .before .before .at-most .ensures .0) (c .before .before .before .before .before .before .before .before .before .enum-told3 .given .1) _ (c .before .before .before .onward .ensures) (c .before .again .ensures .0) (sym (ends-at _ (c .if1 .left)))
+    for-less (c .before .before .before .before .before .before .before .before .before .before .before .before .before .loop .inv .0) (c .before .before .before .before .before .before .before .before .before .before .before .before .before .before .before .before .row .ensures) _ _ (ranOf (c .before .before .before .before .before .run-body .result) (c .before .before .before .before .before .run-body .last .1 .1 .1 .1 .1 .1 .0)) (rw (c .before .before .before .before .before .before .before .before .before .before .before .at-most .ensures .1) at (c .before .before .before .before .before .run-body .ensures .result)) (held-is (c .before .before .before .before .before .before .before .before .before .before .before .before .before .before .before .signed .result) (c .before .before .before .before .before .before .before .before .before .before .before .before .before .before .before .signed .ok) ∙ c .before .before .before .before .before .before .before .before .before .before .before .before .before .before .before .signed .ensures) (c .before .before .before .before .before .before .before .before .before .before .before .at-most .ensures .0) (c .before .before .before .before .before .before .before .before .before .enum-told3 .given .1) _ (c .before .before .before .onward .ensures .1) (c .before .again .ensures .1) (sym (ends-at _ (c .if1 .left)))
 
 pub run-for-loop-again : (t : ℕ) → run-for-lts.Need-loop-again (run-for-calls t) (run-for-at t) run-for.Post run-for-Inv-loop run-for-μ-loop
 run-for-loop-again t c =
-    (for-more (c .before .before .before .before .before .before .before .before .before .before .before .before .before .loop .inv .0) (c .before .before .before .before .before .before .before .before .before .before .before .before .before .before .before .before .row .ensures) _ _ (ranOf (c .before .before .before .before .before .run-body .result) (c .before .before .before .before .before .run-body .last .1 .1 .1 .1 .1 .1 .0)) (rw (c .before .before .before .before .before .before .before .before .before .before .before .at-most .ensures .1) at (c .before .before .before .before .before .run-body .ensures .result)) (held-is (c .before .before .before .before .before .before .before .before .before .before .before .before .before .before .before .signed .result) (c .before .before .before .before .before .before .before .before .before .before .before .before .before .before .before .signed .ok) ∙ c .before .before .before .before .before .before .before .before .before .before .before .before .before .before .before .signed .ensures) (c .before .before .before .before .before .before .before .before .before .before .before .at-most .ensures .0) (c .before .before .before .before .before .before .before .before .before .enum-told3 .given .1) _ (c .before .before .before .onward .ensures) (c .before .again .ensures .0) (sym (ends-at _ (c .if1 .left))) (c .before .before .before .onward .kept .1 .1 .1 .0 ∙ c .before .before .before .before .before .run-body .ensures .store ∙ ap length (c .before .before .before .before .before .before .before .before .before .before .before .at-most .ensures .1)) (c .before .before .before .before .before .run-body .ensures .values), c .before .again .ensures .1 ∙ c .before .before .before .before .before .run-body .ensures .run ∙ c .before .before .before .before .before .before .before .before .before .before .before .before .before .loop .inv .1)
+    (for-more (c .before .before .before .before .before .before .before .before .before .before .before .before .before .loop .inv .0) (c .before .before .before .before .before .before .before .before .before .before .before .before .before .before .before .before .row .ensures) _ _ (ranOf (c .before .before .before .before .before .run-body .result) (c .before .before .before .before .before .run-body .last .1 .1 .1 .1 .1 .1 .0)) (rw (c .before .before .before .before .before .before .before .before .before .before .before .at-most .ensures .1) at (c .before .before .before .before .before .run-body .ensures .result)) (held-is (c .before .before .before .before .before .before .before .before .before .before .before .before .before .before .before .signed .result) (c .before .before .before .before .before .before .before .before .before .before .before .before .before .before .before .signed .ok) ∙ c .before .before .before .before .before .before .before .before .before .before .before .before .before .before .before .signed .ensures) (c .before .before .before .before .before .before .before .before .before .before .before .at-most .ensures .0) (c .before .before .before .before .before .before .before .before .before .enum-told3 .given .1) _ (c .before .before .before .onward .ensures .1) (c .before .again .ensures .1) (sym (ends-at _ (c .if1 .left))) (c .before .before .before .onward .kept .1 .1 .1 .0 ∙ c .before .before .before .before .before .run-body .ensures .store ∙ ap length (c .before .before .before .before .before .before .before .before .before .before .before .at-most .ensures .1)) (c .before .before .before .before .before .run-body .ensures .values), c .before .again .ensures .2 ∙ c .before .before .before .before .before .run-body .ensures .run ∙ c .before .before .before .before .before .before .before .before .before .before .before .before .before .loop .inv .1)
