@@ -61,7 +61,7 @@ fn read_on(
     communicate(image, i, r, w, store, script, values, run)
 }
 
-// The same, with the run's state taken out of its slots and put back.
+// The same, with the run's state taken out of its slots and put back. An image made anew is handed on in registers.
 fn run_worded(
     image: &[u8],
     r: u16,
