@@ -10,7 +10,7 @@ use Rattle.model.specs.Image.{Tables}
 use Rattle.model.specs.Decode.{act}
 use Rattle.model.specs.Binding.{parametersOf}
 use Rattle.model.specs.Sets.{jumps}
-use Rattle.model.specs.Largest.{topOf, Sub, Reached, Fits, Largest, reachedOf, carried, round, alike, sum, begun, setsOf}
+use Rattle.model.specs.Largest.{topOf, Sub, Reached, Fits, Largest, reachedOf, carried, sweep, alike, sum, begun, setsOf}
 use Rattle.model.proofs.Rows.{both-true}
 use Rattle.model.proofs.Masks.{has-digit, sub-refl, sub-trans, meet-left, meet-right}
 use Rattle.model.proofs.Bytes.{length-table, getD-table}
@@ -89,24 +89,24 @@ module _ (x : Tables) where
         let ih = carried-above o f p h q m k i in
         choice (Sub (o q)) (has r k) _ _ (λ e. relax-above x o f k q _ _ (p k (has-digit r k e)) ih (h k)) (λ e. ih)
 
-    -- ---- one round
-    round-length : length (round x r sets) ≡ length (x .states)
-    unfolding round
-    round-length = length-table _ 0 (length (x .states))
+    -- ---- one sweep
+    sweep-length : length (sweep x r sets) ≡ length (x .states)
+    unfolding sweep
+    sweep-length = length-table _ 0 (length (x .states))
 
-    round-at : (q : ℕ) → q < length (x .states) → setAt (round x r sets) q ≡ carried x r sets q (setAt sets q) (length (x .states))
-    unfolding round
-    round-at q l = let e : 0 + q ≡ q = omega arith in getD-table _ 0 (length (x .states)) q (topOf x) l ∙ rw e
+    sweep-at : (q : ℕ) → q < length (x .states) → setAt (sweep x r sets) q ≡ carried x r sets q (setAt sets q) (length (x .states))
+    unfolding sweep
+    sweep-at q l = let e : 0 + q ≡ q = omega arith in getD-table _ 0 (length (x .states)) q (topOf x) l ∙ rw e
 
-    round-below : length sets ≡ length (x .states) → (q : ℕ) → Sub (setAt (round x r sets) q) (setAt sets q)
-    unfolding round
-    round-below z = table-rule (λ q m. Sub m (setAt sets q)) _ (length (x .states)) (topOf x) (λ q l. carried-below q (setAt sets q) (length (x .states)))
+    sweep-below : length sets ≡ length (x .states) → (q : ℕ) → Sub (setAt (sweep x r sets) q) (setAt sets q)
+    unfolding sweep
+    sweep-below z = table-rule (λ q m. Sub m (setAt sets q)) _ (length (x .states)) (topOf x) (λ q l. carried-below q (setAt sets q) (length (x .states)))
         (λ q l. rw (List·getD-eq-default sets (topOf x) {n = q} (omega arith)) (sub-refl (topOf x)))
 
-    round-above : (o : ℕ → ℕ) → Fits x o → ((s : ℕ) → Has r s → Reached x s) → ((s : ℕ) → Sub (o s) (setAt sets s))
-        → (q : ℕ) → Sub (o q) (setAt (round x r sets) q)
-    unfolding round
-    round-above o f p h = table-rule (λ q m. Sub (o q) m) _ (length (x .states)) (topOf x)
+    sweep-above : (o : ℕ → ℕ) → Fits x o → ((s : ℕ) → Has r s → Reached x s) → ((s : ℕ) → Sub (o s) (setAt sets s))
+        → (q : ℕ) → Sub (o q) (setAt (sweep x r sets) q)
+    unfolding sweep
+    sweep-above o f p h = table-rule (λ q m. Sub (o q) m) _ (length (x .states)) (topOf x)
         (λ q l. carried-above o f p h q (setAt sets q) (length (x .states)) (h q)) (λ q l. f .all q)
 
   -- ---- the rounds
@@ -135,26 +135,26 @@ module _ (x : Tables) where
         n : ℕ
         n = length (x .states)
 
-    stage-on : (sets : List ℕ) → Stage sets → Stage (round x (reachedOf x) sets)
+    stage-on : (sets : List ℕ) → Stage sets → Stage (sweep x (reachedOf x) sets)
     stage-on sets h =
-        let b = round-below (reachedOf x) sets (h .size) in
+        let b = sweep-below (reachedOf x) sets (h .size) in
         record {
-          size = round-length (reachedOf x) sets;
+          size = sweep-length (reachedOf x) sets;
           over = record {
             all = λ s. sub-trans _ _ _ (b s) (h .over .all s);
             begins = sub-trans _ _ _ (b 0) (h .over .begins);
-            above = λ o f. round-above (reachedOf x) sets o f (reached-sound x w) (h .over .above o f);
+            above = λ o f. sweep-above (reachedOf x) sets o f (reached-sound x w) (h .over .above o f);
           };
         }
 
-    falls : (sets : List ℕ) → Stage sets → alike (round x (reachedOf x) sets) sets ≡ false → sum (round x (reachedOf x) sets) < sum sets
+    falls : (sets : List ℕ) → Stage sets → alike (sweep x (reachedOf x) sets) sets ≡ false → sum (sweep x (reachedOf x) sets) < sum sets
     falls sets h =
-        sum-lt (round x (reachedOf x) sets) sets (topOf x) (round-length (reachedOf x) sets ∙ sym (h .size))
-        (λ i. sub-le _ _ (round-below (reachedOf x) sets (h .size) i))
+        sum-lt (sweep x (reachedOf x) sets) sets (topOf x) (sweep-length (reachedOf x) sets ∙ sym (h .size))
+        (λ i. sub-le _ _ (sweep-below (reachedOf x) sets (h .size) i))
 
-    settled : Settled alike (round x (reachedOf x)) Stage (setsOf x)
+    settled : Settled alike (sweep x (reachedOf x)) Stage (setsOf x)
     unfolding setsOf
-    settled = settles alike (round x (reachedOf x)) Stage sum stage-on falls (suc (sum (begun x))) (begun x) stage-first (omega arith)
+    settled = settles alike (sweep x (reachedOf x)) Stage sum stage-on falls (suc (sum (begun x))) (begun x) stage-first (omega arith)
 
     pub sets-length : length (setsOf x) ≡ length (x .states)
     sets-length = settled .kept .size
@@ -162,11 +162,11 @@ module _ (x : Tables) where
     pub sets-largest : Largest x (λ s. getD (setsOf x) s (topOf x))
     sets-largest = at-rest x w (setAt (setsOf x)) (settled .kept .over) along
       where
-        rests : round x (reachedOf x) (setsOf x) ≡ setsOf x
+        rests : sweep x (reachedOf x) (setsOf x) ≡ setsOf x
         rests = alike-same _ _ (settled .rests)
 
         along : (s q : ℕ) → Reached x s → q < length (x .states) → Sub (setAt (setsOf x) q) (jumps q (topOf x) (setAt (setsOf x) s) (act x s))
         along s q r l =
             subst (λ m. Sub m (jumps q (topOf x) (setAt (setsOf x) s) (act x s)))
-            (sym (round-at (reachedOf x) (setsOf x) q l) ∙ ap (λ k. setAt k q) rests)
+            (sym (sweep-at (reachedOf x) (setsOf x) q l) ∙ ap (λ k. setAt k q) rests)
             (carried-jump (reachedOf x) (setsOf x) s q _ _ (reached-in x w s r) (reached-found x w s r))

@@ -8,7 +8,7 @@ use borrow.Author.Tests.{ltb-true, ltb-false, leb-true, eqb-true}
 use Rattle.model.specs.declared.Fields.{Fields}
 use Rattle.model.specs.Limits.{limits}
 use Rattle.model.specs.Image.{Tables, none, fieldsOf}
-use Rattle.model.specs.Rows.{Kind, expression, pattern, offer, gets, ofType, item, range, action, branch, arm, unknown, Field, plain, one, oneOrNone, list, listOrNone, next, unused, variable, type, value, gate, state, literal, upper, ExpressionRow, isVariable, isConstant, isUnary, isBinary, PatternRow, isAny, isBind, isValue, isWhere, OfferRow, isEmit, isReceive, ActionRow, isNull, isAssign, isChoose, isReset, isCommunicate, isTo, isThen, isSelect, isCase, isWhile, isFor, Means, anExpression, aPattern, anOffer, anAction, another, kindOf, Shape, codes, lookup, shapeOf, meansAt, numberOfKind, isKind, pickNext, nextOf, listUpTo, names, listFits, fieldFits, formed}
+use Rattle.model.specs.Rows.{Kind, expression, pattern, offer, gets, ofType, item, range, action, branch, arm, unknown, Field, plain, one, oneOrNone, list, listOrNone, next, unused, aVariable, aType, aValue, aGate, aState, literal, upper, ExpressionRow, isVariable, isConstant, isUnary, isBinary, PatternRow, isAny, isBind, isValue, isWhere, OfferRow, isEmit, isReceive, ActionRow, isNull, isAssign, isChoose, isReset, isCommunicate, isTo, isThen, isSelect, isCase, isWhile, isFor, Means, anExpression, aPattern, anOffer, anAction, another, kindOf, Shape, codes, lookup, shapeOf, meansAt, numberOfKind, isKind, pickNext, nextOf, listUpTo, names, listFits, fieldFits, formed}
 
 pub both-true : (a b : Bool) → (a && b) ≡ true → (a ≡ true) × (b ≡ true)
 both-true true b e = (refl, e)
@@ -36,13 +36,13 @@ abbrev three : Field → Field → Field → Three
 three a b c = record { a = a; b = b; c = c }
 
 abbrev pub fieldsFor : Means → Three
-fieldsFor (anExpression isVariable) = three variable unused unused
-fieldsFor (anExpression isConstant) = three type value unused
+fieldsFor (anExpression isVariable) = three aVariable unused unused
+fieldsFor (anExpression isConstant) = three aType aValue unused
 fieldsFor (anExpression (isUnary o)) = three (one expression) unused unused
 fieldsFor (anExpression (isBinary o)) = three (one expression) (one expression) unused
-fieldsFor (aPattern isAny) = three type unused unused
-fieldsFor (aPattern isBind) = three variable unused unused
-fieldsFor (aPattern isValue) = three type value unused
+fieldsFor (aPattern isAny) = three aType unused unused
+fieldsFor (aPattern isBind) = three aVariable unused unused
+fieldsFor (aPattern isValue) = three aType aValue unused
 fieldsFor (aPattern isWhere) = three (one pattern) (one expression) unused
 fieldsFor (anOffer isEmit) = three (one expression) next unused
 fieldsFor (anOffer isReceive) = three (one pattern) next unused
@@ -50,8 +50,8 @@ fieldsFor (anAction isNull) = three unused unused unused
 fieldsFor (anAction isAssign) = three (list gets (limits .vector)) unused unused
 fieldsFor (anAction isChoose) = three (list ofType (limits .vector)) (oneOrNone expression) unused
 fieldsFor (anAction isReset) = three (list item (limits .vector)) unused unused
-fieldsFor (anAction isCommunicate) = three gate (listOrNone offer (limits .vector)) unused
-fieldsFor (anAction isTo) = three state unused unused
+fieldsFor (anAction isCommunicate) = three aGate (listOrNone offer (limits .vector)) unused
+fieldsFor (anAction isTo) = three aState unused unused
 fieldsFor (anAction isThen) = three (one action) (one action) unused
 fieldsFor (anAction isSelect) = three (listOrNone branch (limits .branches)) unused unused
 fieldsFor (anAction isCase) = three (one expression) (listOrNone arm (limits .branches)) unused
@@ -60,10 +60,10 @@ fieldsFor (anAction isFor) = three (one range) (one action) unused
 fieldsFor (another expression) = three unused unused unused
 fieldsFor (another pattern) = three unused unused unused
 fieldsFor (another offer) = three unused unused unused
-fieldsFor (another gets) = three variable (one expression) next
-fieldsFor (another ofType) = three variable type next
-fieldsFor (another item) = three variable next unused
-fieldsFor (another range) = three variable literal upper
+fieldsFor (another gets) = three aVariable (one expression) next
+fieldsFor (another ofType) = three aVariable aType next
+fieldsFor (another item) = three aVariable next unused
+fieldsFor (another range) = three aVariable literal upper
 fieldsFor (another action) = three unused unused unused
 fieldsFor (another branch) = three (one action) next unused
 fieldsFor (another arm) = three (one pattern) (one action) next

@@ -22,38 +22,38 @@ pub record Given : Type 0 where
   pub number : ℕ
   pub place : ℕ
 
-abbrev pub line : ℕ → ℕ → Given
-line n p = record { number = n; place = p }
+abbrev pub numbered : ℕ → ℕ → Given
+numbered n p = record { number = n; place = p }
 
 abbrev pub given : Refusal → Given
-given ImageLength = line 1 0
-given MarkOrLength = line 2 0
-given Starts = line 3 0
-given Entries = line 4 0
-given (Malformed r) = line 5 (r .0)
-given (NoAction s) = line 6 (s .0)
-given (NoCondition n) = line 6 n
-given (NotNamedOnce r) = line 7 (r .0)
-given (Typing r) = line 8 (r .0)
-given (Binding r) = line 9 (r .0)
-given SetsShort = line 10 0
-given (Initialisation s) = line 11 (s .0)
-given (Speech s) = line 12 (s .0)
-given StoreLength = line 13 0
-given ParameterCount = line 14 0
-given (ParameterValue v) = line 15 (v .0)
-given ConditionFalse = line 16 0
-given NoState = line 17 0
-given (SlotValue v) = line 18 (v .0)
-given LabelShort = line 19 0
-given BudgetOver = line 20 0
-given (Blocked r) = line 21 (r .0)
-given (Undefined r) = line 22 (r .0)
-given (ScriptEnded r) = line 23 (r .0)
-given (WordOutOfRange r) = line 24 (r .0)
-given (BudgetSpent r) = line 25 (r .0)
-given (BlockedSpoken r) = line 26 (r .0)
-given (SecondCommunication r) = line 27 (r .0)
+given ImageLength = numbered 1 0
+given MarkOrLength = numbered 2 0
+given Starts = numbered 3 0
+given Entries = numbered 4 0
+given (Malformed r) = numbered 5 (r .0)
+given (NoAction s) = numbered 6 (s .0)
+given (NoCondition n) = numbered 6 n
+given (NotNamedOnce r) = numbered 7 (r .0)
+given (Typing r) = numbered 8 (r .0)
+given (Binding r) = numbered 9 (r .0)
+given SetsShort = numbered 10 0
+given (Initialisation s) = numbered 11 (s .0)
+given (Speech s) = numbered 12 (s .0)
+given StoreLength = numbered 13 0
+given ParameterCount = numbered 14 0
+given (ParameterValue v) = numbered 15 (v .0)
+given ConditionFalse = numbered 16 0
+given NoState = numbered 17 0
+given (SlotValue v) = numbered 18 (v .0)
+given LabelShort = numbered 19 0
+given BudgetOver = numbered 20 0
+given (Blocked r) = numbered 21 (r .0)
+given (Undefined r) = numbered 22 (r .0)
+given (ScriptEnded r) = numbered 23 (r .0)
+given (WordOutOfRange r) = numbered 24 (r .0)
+given (BudgetSpent r) = numbered 25 (r .0)
+given (BlockedSpoken r) = numbered 26 (r .0)
+given (SecondCommunication r) = numbered 27 (r .0)
 
 abbrev pub number : Refusal → ℕ
 number y = given y .number

@@ -44,11 +44,11 @@ small variables states rows =
 abbrev pub w : ℕ → ℕ → ℕ → ℕ → Fields
 w code a b c = record { code = code; a = a; b = b; c = c }
 
-abbrev pub plain : ℕ → Entry
-plain t = record { type = t; parameter = 0 }
+abbrev pub local : ℕ → Entry
+local t = record { type = t; parameter = 0 }
 
-abbrev pub given : ℕ → Entry
-given t = record { type = t; parameter = 1 }
+abbrev pub parameter : ℕ → Entry
+parameter t = record { type = t; parameter = 1 }
 
 -- rows 0 to 22 of the table writer
 unfoldable pub writing : List Fields
@@ -60,7 +60,7 @@ writing =
 -- the table writer: i is variable 0, q variable 1, a parameter
 unfoldable pub writer : List ℕ
 writer =
-    encode (2 ∷ 0 ∷ []) (plain int ∷ given int ∷ []) (5 ∷ 29 ∷ 30 ∷ [])
+    encode (2 ∷ 0 ∷ []) (local int ∷ parameter int ∷ []) (5 ∷ 29 ∷ 30 ∷ [])
     (writing ++ (w 52 2 none 0 ∷ w 53 2 0 0 ∷ w 54 23 24 0 ∷ w 34 0 0 0 ∷ w 58 26 25 none ∷ w 58 22 21 27 ∷ w 56 8 28 0
     ∷ w 55 none 0 0 ∷ []))
     (trailer 0 4 12 18 3 0 282)
@@ -68,77 +68,77 @@ writer =
 -- rows 23 to 27 cut
 unfoldable pub cut : List ℕ
 cut =
-    encode (2 ∷ 0 ∷ []) (plain int ∷ given int ∷ []) (5 ∷ 24 ∷ 25 ∷ [])
+    encode (2 ∷ 0 ∷ []) (local int ∷ parameter int ∷ []) (5 ∷ 24 ∷ 25 ∷ [])
     (writing ++ (w 58 22 21 none ∷ w 56 8 23 0 ∷ w 55 none 0 0 ∷ [])) (trailer 0 4 12 18 3 0 242)
 
 -- the table writer with state 1 as "communicate on gate 1; case i <= 127 is true -> to 1 end"
 unfoldable pub forgotten : List ℕ
 forgotten =
-    small (plain int ∷ given int ∷ []) (5 ∷ 14 ∷ 15 ∷ [])
+    small (local int ∷ parameter int ∷ []) (5 ∷ 14 ∷ 15 ∷ [])
     (w 2 0 1 0 ∷ w 2 1 0 0 ∷ w 44 0 1 none ∷ w 49 2 0 0 ∷ w 53 1 0 0 ∷ w 54 3 4 0 ∷ w 52 1 none 0 ∷ w 1 0 0 0 ∷ w 2 1 127 0
     ∷ w 27 7 8 0 ∷ w 34 0 1 0 ∷ w 53 1 0 0 ∷ w 58 10 11 none ∷ w 56 9 12 0 ∷ w 54 6 13 0 ∷ w 55 none 0 0 ∷ [])
 
 -- "to 0; i := v", v never set
 unfoldable pub dead : List ℕ
 dead =
-    small (plain int ∷ plain int ∷ []) (5 ∷ [])
+    small (local int ∷ local int ∷ []) (5 ∷ [])
     (w 2 0 1 0 ∷ w 53 0 0 0 ∷ w 1 1 0 0 ∷ w 44 0 2 none ∷ w 49 3 0 0 ∷ w 54 1 4 0 ∷ [])
 
 -- "while true do reset i end", i a parameter
 unfoldable pub losing : List ℕ
-losing = small (given int ∷ []) (4 ∷ []) (w 2 0 1 0 ∷ w 2 0 1 0 ∷ w 46 0 none 0 ∷ w 51 2 0 0 ∷ w 59 1 3 0 ∷ [])
+losing = small (parameter int ∷ []) (4 ∷ []) (w 2 0 1 0 ∷ w 2 0 1 0 ∷ w 46 0 none 0 ∷ w 51 2 0 0 ∷ w 59 1 3 0 ∷ [])
 
 -- x, y, z := 32,767 plus 1, −7 by 2, −7 remainder 2; to 0
 unfoldable pub sums : List ℕ
 sums =
-    small (plain int ∷ plain int ∷ plain int ∷ []) (15 ∷ [])
+    small (local int ∷ local int ∷ local int ∷ []) (15 ∷ [])
     (w 2 0 1 0 ∷ w 2 1 0x7FFF 0 ∷ w 2 1 1 0 ∷ w 20 1 2 0 ∷ w 2 1 0xFFF9 0 ∷ w 2 1 2 0 ∷ w 23 4 5 0 ∷ w 2 1 0xFFF9 0 ∷ w 2 1 2 0
     ∷ w 24 7 8 0 ∷ w 44 2 9 none ∷ w 44 1 6 10 ∷ w 44 0 3 11 ∷ w 49 12 0 0 ∷ w 53 0 0 0 ∷ w 54 13 14 0 ∷ [])
 
 -- for i in 3..2 do communicate on gate 1; to 0 end; to 0
 unfoldable pub unentered : List ℕ
 unentered =
-    small (plain int ∷ []) (7 ∷ [])
+    small (local int ∷ []) (7 ∷ [])
     (w 2 0 1 0 ∷ w 47 0 3 2 ∷ w 52 1 none 0 ∷ w 53 0 0 0 ∷ w 54 2 3 0 ∷ w 60 1 4 0 ∷ w 53 0 0 0 ∷ w 54 5 6 0 ∷ [])
 
 -- case i is j where j = 99 -> to 0 | any int -> communicate on gate 1 !j; to 0 end
 unfoldable pub threading : List ℕ
 threading =
-    small (given int ∷ given int ∷ []) (16 ∷ [])
+    small (parameter int ∷ parameter int ∷ []) (16 ∷ [])
     (w 2 0 1 0 ∷ w 1 0 0 0 ∷ w 33 1 0 0 ∷ w 1 1 0 0 ∷ w 2 1 99 0 ∷ w 25 3 4 0 ∷ w 35 2 5 0 ∷ w 53 0 0 0 ∷ w 32 1 0 0 ∷ w 1 1 0 0
     ∷ w 40 9 none 0 ∷ w 52 1 10 0 ∷ w 53 0 0 0 ∷ w 54 11 12 0 ∷ w 58 8 13 none ∷ w 58 6 7 14 ∷ w 56 1 15 0 ∷ [])
 
 -- x, y := y, x; to 0
 unfoldable pub exchanging : List ℕ
 exchanging =
-    small (given int ∷ given int ∷ []) (7 ∷ [])
+    small (parameter int ∷ parameter int ∷ []) (7 ∷ [])
     (w 2 0 1 0 ∷ w 1 1 0 0 ∷ w 1 0 0 0 ∷ w 44 1 2 none ∷ w 44 0 1 3 ∷ w 49 4 0 0 ∷ w 53 0 0 0 ∷ w 54 5 6 0 ∷ [])
 
 -- communicate on gate 1; case b is any bool where true -> to 0 end
 unfoldable pub guardedArm : List ℕ
 guardedArm =
-    small (given bool ∷ []) (9 ∷ [])
+    small (parameter bool ∷ []) (9 ∷ [])
     (w 2 0 1 0 ∷ w 52 1 none 0 ∷ w 1 0 0 0 ∷ w 32 0 0 0 ∷ w 2 0 1 0 ∷ w 35 3 4 0 ∷ w 53 0 0 0 ∷ w 58 5 6 none ∷ w 56 2 7 0
     ∷ w 54 1 8 0 ∷ [])
 
 -- communicate on gate 1; case b is true where true -> to 0 | false -> to 0 end
 unfoldable pub guardedConstant : List ℕ
 guardedConstant =
-    small (given bool ∷ []) (12 ∷ [])
+    small (parameter bool ∷ []) (12 ∷ [])
     (w 2 0 1 0 ∷ w 52 1 none 0 ∷ w 1 0 0 0 ∷ w 34 0 1 0 ∷ w 2 0 1 0 ∷ w 35 3 4 0 ∷ w 53 0 0 0 ∷ w 34 0 0 0 ∷ w 53 0 0 0
     ∷ w 58 7 8 none ∷ w 58 5 6 9 ∷ w 56 2 10 0 ∷ w 54 1 11 0 ∷ [])
 
 -- while b do reset x; y := 1 end; to 1; and state 1: y := y; to 1
 unfoldable pub zeroRounds : List ℕ
 zeroRounds =
-    small (given bool ∷ given int ∷ plain int ∷ []) (10 ∷ 15 ∷ [])
+    small (parameter bool ∷ parameter int ∷ local int ∷ []) (10 ∷ 15 ∷ [])
     (w 2 0 1 0 ∷ w 1 0 0 0 ∷ w 46 1 none 0 ∷ w 51 2 0 0 ∷ w 2 1 1 0 ∷ w 44 2 4 none ∷ w 49 5 0 0 ∷ w 54 3 6 0 ∷ w 59 1 7 0
     ∷ w 53 1 0 0 ∷ w 54 8 9 0 ∷ w 1 2 0 0 ∷ w 44 2 11 none ∷ w 49 12 0 0 ∷ w 53 1 0 0 ∷ w 54 13 14 0 ∷ [])
 
 -- while b do y := 1 end; to 1; and state 1: y := y; to 1
 unfoldable pub keeping : List ℕ
 keeping =
-    small (given bool ∷ plain int ∷ []) (7 ∷ 12 ∷ [])
+    small (parameter bool ∷ local int ∷ []) (7 ∷ 12 ∷ [])
     (w 2 0 1 0 ∷ w 1 0 0 0 ∷ w 2 1 1 0 ∷ w 44 1 2 none ∷ w 49 3 0 0 ∷ w 59 1 4 0 ∷ w 53 1 0 0 ∷ w 54 5 6 0 ∷ w 1 1 0 0
     ∷ w 44 1 8 none ∷ w 49 9 0 0 ∷ w 53 1 0 0 ∷ w 54 10 11 0 ∷ [])
 

@@ -57,9 +57,9 @@ carried x reached sets q m (suc n) =
       | false ↦ carried x reached sets q m n
     ]
 
--- one round over all states
-unfoldable pub round : Tables → ℕ → List ℕ → List ℕ
-round x reached sets =
+-- one sweep over all states
+unfoldable pub sweep : Tables → ℕ → List ℕ → List ℕ
+sweep x reached sets =
     let n = length (x .states) in table (λ q. carried x reached sets q (getD sets q (topOf x)) n) 0 n
 
 unfoldable pub alike : List ℕ → List ℕ → Bool
@@ -76,9 +76,9 @@ sum (m ∷ ms) = m + sum ms
 unfoldable pub begun : Tables → List ℕ
 begun x = table (λ q. cond (eqb q 0) (parametersOf (x .variables)) (topOf x)) 0 (length (x .states))
 
--- the largest sets, by state: each round lowers the sum of the masks, or nothing changes
+-- the largest sets, by state: each sweep lowers the sum of the masks, or nothing changes
 unfoldable pub setsOf : Tables → List ℕ
-setsOf x = let r = reachedOf x in settle alike (round x r) (suc (sum (begun x))) (begun x)
+setsOf x = let r = reachedOf x in settle alike (sweep x r) (suc (sum (begun x))) (begun x)
 
 -- 11: "Errors are judged with the finished sets", at the states reached
 unfoldable pub initialised : Tables → ℕ → List ℕ → ℕ → Bool

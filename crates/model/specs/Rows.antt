@@ -42,21 +42,21 @@ pub data Field : Type 0 where
 abbrev pub unused : Field
 unused = plain (λ x w n. eqb n 0)
 
-abbrev pub variable : Field
-variable = plain (λ x w n. ltb n (length (x .variables)))
+abbrev pub aVariable : Field
+aVariable = plain (λ x w n. ltb n (length (x .variables)))
 
-abbrev pub type : Field
-type = plain (λ x w n. ltb n (length (x .sizes)))
+abbrev pub aType : Field
+aType = plain (λ x w n. ltb n (length (x .sizes)))
 
 -- a value of the type in field a
-abbrev pub value : Field
-value = plain (λ x w n. eqb (w .a) int || ltb n (sizeOf x (w .a)))
+abbrev pub aValue : Field
+aValue = plain (λ x w n. eqb (w .a) int || ltb n (sizeOf x (w .a)))
 
-abbrev pub gate : Field
-gate = plain (λ x w n. ltb n (x .gates))
+abbrev pub aGate : Field
+aGate = plain (λ x w n. ltb n (x .gates))
 
-abbrev pub state : Field
-state = plain (λ x w n. ltb n (length (x .states)))
+abbrev pub aState : Field
+aState = plain (λ x w n. ltb n (length (x .states)))
 
 abbrev pub literal : Field
 literal = plain (λ x w n. true)
@@ -114,8 +114,8 @@ operator2 n o = line n (anExpression (isBinary o)) (one expression) (one express
 -- the table of codes
 unfoldable pub codes : List Shape
 codes =
-    line 1 (anExpression isVariable) variable unused unused
-    ∷ line 2 (anExpression isConstant) type value unused
+    line 1 (anExpression isVariable) aVariable unused unused
+    ∷ line 2 (anExpression isConstant) aType aValue unused
     ∷ operator1 16 Not
     ∷ operator2 17 (logic And)
     ∷ operator2 18 (logic Or)
@@ -128,22 +128,22 @@ codes =
     ∷ operator2 25 (comparison Equal)
     ∷ operator2 26 (comparison Less)
     ∷ operator2 27 (comparison AtMost)
-    ∷ line 32 (aPattern isAny) type unused unused
-    ∷ line 33 (aPattern isBind) variable unused unused
-    ∷ line 34 (aPattern isValue) type value unused
+    ∷ line 32 (aPattern isAny) aType unused unused
+    ∷ line 33 (aPattern isBind) aVariable unused unused
+    ∷ line 34 (aPattern isValue) aType aValue unused
     ∷ line 35 (aPattern isWhere) (one pattern) (one expression) unused
     ∷ line 40 (anOffer isEmit) (one expression) next unused
     ∷ line 41 (anOffer isReceive) (one pattern) next unused
-    ∷ line 44 (another gets) variable (one expression) next
-    ∷ line 45 (another ofType) variable type next
-    ∷ line 46 (another item) variable next unused
-    ∷ line 47 (another range) variable literal upper
+    ∷ line 44 (another gets) aVariable (one expression) next
+    ∷ line 45 (another ofType) aVariable aType next
+    ∷ line 46 (another item) aVariable next unused
+    ∷ line 47 (another range) aVariable literal upper
     ∷ line 48 (anAction isNull) unused unused unused
     ∷ line 49 (anAction isAssign) (list gets (limits .vector)) unused unused
     ∷ line 50 (anAction isChoose) (list ofType (limits .vector)) (oneOrNone expression) unused
     ∷ line 51 (anAction isReset) (list item (limits .vector)) unused unused
-    ∷ line 52 (anAction isCommunicate) gate (listOrNone offer (limits .vector)) unused
-    ∷ line 53 (anAction isTo) state unused unused
+    ∷ line 52 (anAction isCommunicate) aGate (listOrNone offer (limits .vector)) unused
+    ∷ line 53 (anAction isTo) aState unused unused
     ∷ line 54 (anAction isThen) (one action) (one action) unused
     ∷ line 55 (anAction isSelect) (listOrNone branch (limits .branches)) unused unused
     ∷ line 56 (anAction isCase) (one expression) (listOrNone arm (limits .branches)) unused

@@ -7,7 +7,7 @@ use borrow.Author.Tests.{lt-ltb, le-ltb, le-leb, eq-eqb, ne-eqb}
 use Rattle.model.specs.declared.{Image.Image, Fields.Fields}
 use Rattle.model.specs.Limits.{limits}
 use Rattle.model.specs.Image.{Tables, none, int, tablesOf, sizeOf, fieldsOf}
-use Rattle.model.specs.Rows.{Kind, one, listOrNone, next, unused, state, fieldFits, codes, lookup, shapeOf, meansAt, kindOf, numberOfKind, isKind, pickNext, nextOf, listUpTo, names, listFits, formed, isRoot}
+use Rattle.model.specs.Rows.{Kind, one, listOrNone, next, unused, aState, fieldFits, codes, lookup, shapeOf, meansAt, kindOf, numberOfKind, isKind, pickNext, nextOf, listUpTo, names, listFits, formed, isRoot}
 use Rattle.image.specs.Located.{Located, RowOf, TypeOf, StateOf}
 use Rattle.image.proofs.Laid.{laid, rows-count, types-count, states-count}
 use Rattle.rows.specs.declared.lines.Line.{Line}
@@ -137,10 +137,10 @@ module _ (w : Fields) (l : Line) (t : Tells l (shapeOf (w .code))) where
         (List·getD-eq-default (plainIn (l .form % 16) ∷ namingIn (l .form % 16) j k ∷ []) (listingIn (l .form % 16) j k) h ∙ rw g)
 
   -- the last form of each
-  pub plain-last : 5 ≤ l .form % 16 → l .form / 16 ≡ 0 → Shown w l (form state unused unused)
+  pub plain-last : 5 ≤ l .form % 16 → l .form / 16 ≡ 0 → Shown w l (form aState unused unused)
   unfolding plains
   plain-last h e =
-      subst (Shown w l) (List·getD-eq-default plains (form state unused unused) h) (plain-shown (l .form % 16) refl e)
+      subst (Shown w l) (List·getD-eq-default plains (form aState unused unused) h) (plain-shown (l .form % 16) refl e)
 
   pub naming-last : 6 ≤ l .form % 16 → l .form / 16 ≡ 1 → Shown w l (form (one (kindIn (l .a))) (one (kindIn (l .b))) next)
   unfolding namings

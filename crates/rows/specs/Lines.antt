@@ -3,7 +3,7 @@ use mathlib.Core.{Path._≡_, List.List, List.[], List._∷_}
 use Prim.Native.Nat.{ℕ, _/_, _%_, _<_}
 use lib.ListN.{getD}
 use Rattle.model.specs.Limits.{limits}
-use Rattle.model.specs.Rows.{Kind, expression, pattern, offer, gets, ofType, item, range, action, branch, arm, unknown, Field, plain, one, oneOrNone, list, listOrNone, next, unused, variable, type, value, gate, state, literal, upper, kindOf, Shape, shapeOf, numberOfKind}
+use Rattle.model.specs.Rows.{Kind, expression, pattern, offer, gets, ofType, item, range, action, branch, arm, unknown, Field, plain, one, oneOrNone, list, listOrNone, next, unused, aVariable, aType, aValue, aGate, aState, literal, upper, kindOf, Shape, shapeOf, numberOfKind}
 use Rattle.rows.specs.declared.lines.Line.{Line}
 
 -- the digit of a field: the kind of the row that it names, 14 for the next row of its own kind, 15 where it names none
@@ -32,14 +32,14 @@ form a b c = record { a = a; b = b; c = c }
 unfoldable pub plains : List Form
 plains =
     form unused unused unused
-    ∷ form variable unused unused
-    ∷ form type value unused
-    ∷ form type unused unused
-    ∷ form variable literal upper
+    ∷ form aVariable unused unused
+    ∷ form aType aValue unused
+    ∷ form aType unused unused
+    ∷ form aVariable literal upper
     ∷ []
 
 abbrev pub plainIn : ℕ → Form
-plainIn n = getD plains n (form state unused unused)
+plainIn n = getD plains n (form aState unused unused)
 
 -- forms that name rows: j and k are the kinds of those that a and b name
 unfoldable pub namings : Kind → Kind → List Form
@@ -47,9 +47,9 @@ namings j k =
     form (one j) unused unused
     ∷ form (one j) (one k) unused
     ∷ form (one j) next unused
-    ∷ form variable next unused
-    ∷ form variable type next
-    ∷ form variable (one k) next
+    ∷ form aVariable next unused
+    ∷ form aVariable aType next
+    ∷ form aVariable (one k) next
     ∷ []
 
 abbrev pub namingIn : ℕ → Kind → Kind → Form
@@ -60,7 +60,7 @@ unfoldable pub listings : Kind → Kind → List Form
 listings j k =
     form (list j (limits .vector)) unused unused
     ∷ form (list j (limits .vector)) (oneOrNone k) unused
-    ∷ form gate (listOrNone k (limits .vector)) unused
+    ∷ form aGate (listOrNone k (limits .vector)) unused
     ∷ form (listOrNone j (limits .branches)) unused unused
     ∷ []
 
