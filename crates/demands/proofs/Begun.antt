@@ -53,7 +53,7 @@ start-plain h (y ∷ es) (z ∷ zs) (suc v) e =
     (start-plain h es (z ∷ zs) v e)
 
 -- the mask of the parameters by digit
-parameter-digit : (es : List Entry) → ((v : ℕ) → getD es v noEntry .parameter ≤ 1) → (v : ℕ) → digit (parametersOf es) v ≡ getD es v noEntry .parameter
+pub parameter-digit : (es : List Entry) → ((v : ℕ) → getD es v noEntry .parameter ≤ 1) → (v : ℕ) → digit (parametersOf es) v ≡ getD es v noEntry .parameter
 unfolding parametersOf digit
 parameter-digit [] h zero = refl
 parameter-digit [] h (suc v) = parameter-digit [] h v

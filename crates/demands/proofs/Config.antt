@@ -20,7 +20,8 @@ use Rattle.model.specs.Calls.{imageVerdict, flowVerdict, checkVerdict, checkedA
 use Rattle.model.proofs.Rows.{one-true}
 use Rattle.model.proofs.Order.{after-both, each-all}
 use Rattle.model.proofs.Masks.{digit-has}
-use Rattle.demands.specs.Statements.{AreBytes, Runs, begun, moved, Sets}
+use Rattle.demands.specs.Common.{AreBytes}
+use Rattle.demands.specs.Statements.{Runs, begun, moved, Sets}
 use Rattle.demands.proofs.Whole.{Whole, whole}
 use Rattle.demands.proofs.GoodRows.{good-state}
 use Rattle.demands.proofs.Hoare.{shown-jump}

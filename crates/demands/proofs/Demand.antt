@@ -12,7 +12,8 @@ use Rattle.model.specs.Decode.{act}
 use Rattle.model.specs.Run.{ε, spoken, St, gives, blockedAt}
 use Rattle.model.specs.Calls.{imageVerdict, check, slotOfType, slotFits, stepVerdict, attempt, StepDone, movedAs, steppedAs, step}
 use Rattle.model.proofs.Order.{after-accepted, each-accepts}
-use Rattle.demands.specs.Statements.{AreBytes, oneOf, MayGive, MayEnd, Safe, DemandThree}
+use Rattle.demands.specs.Common.{AreBytes}
+use Rattle.demands.specs.Statements.{oneOf, MayGive, MayEnd, Safe, DemandThree}
 use Rattle.demands.proofs.GoodRows.{good-state}
 use Rattle.demands.proofs.Hoare.{shown-ends, shown-stop}
 use Rattle.demands.proofs.Typed.{slot-typed}

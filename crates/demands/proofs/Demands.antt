@@ -6,6 +6,7 @@ use Rattle.demands.proofs.Demand.{demand-three}
 use Rattle.demands.proofs.LargestSets.{sets-are-largest}
 use Rattle.demands.proofs.ShutOut.{answers-are-determined, shut-out}
 use Rattle.demands.proofs.SpeechFigures.{wellSpoken-is}
+use Rattle.demands.proofs.Judged.{rules-are-judgements}
 
 pub demands : Demands
 demands =
@@ -17,4 +18,5 @@ demands =
       determined = answers-are-determined;
       shutOut = shut-out moves-are-transitions;
       speech = wellSpoken-is;
+      rules = rules-are-judgements;
     }

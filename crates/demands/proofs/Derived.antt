@@ -31,7 +31,7 @@ rests o m i j n (on g vs) h e s = cc
 
 module _ (x : Tables) where
   module _ (script : List ℕ) (r : ℕ) where
-    enter : (a : Act) (m : List ℤ) (i c n : ℕ) (l : Label) → c ≡ toll r + n → exec x (at r a) script (made m i c l) ≡ execAct x a script r (made m i n l)
+    pub enter : (a : Act) (m : List ℤ) (i c n : ℕ) (l : Label) → c ≡ toll r + n → exec x (at r a) script (made m i c l) ≡ execAct x a script r (made m i n l)
     unfolding exec
     enter a m i c n l e =
         charge-rule (λ q. q ≡ execAct x a script r (made m i n l)) r (made m i c l) _
@@ -40,12 +40,12 @@ module _ (x : Tables) where
         (λ f z. ap (λ (k : ℕ). execAct x a script r (made m i k l)) (omega (arith, toll-some r f)))
 
     -- the word that is there
-    readingOf-is : (t : ℕ) (s : St) (k : ℤ → St → Res) (z : ℤ) → s .words < length script / 4 → wordAt script (s .words) ≡ z → OfThe x t z
+    pub readingOf-is : (t : ℕ) (s : St) (k : ℤ → St → Res) (z : ℤ) → s .words < length script / 4 → wordAt script (s .words) ≡ z → OfThe x t z
         → readingOf x t script r s k ≡ k z (heard s)
     readingOf-is t s k z l w h = readingOf-word x t script r s k l (rw w h) ∙ ap (λ (y : ℤ). k y (heard s)) w
 
     -- ---- actions that hold none
-    puts : {is : List Gets} {zs : List ℤ} (m : List ℤ) (s : St) → Evals x (s .store) is zs
+    pub puts : {is : List Gets} {zs : List ℤ} (m : List ℤ) (s : St) → Evals x (s .store) is zs
         → storing x is r m s ≡ gives Ends (stored (update m (getters is) zs) s)
     unfolding storing update
     puts m s none-left = refl
@@ -89,18 +89,18 @@ module _ (x : Tables) where
     speaks g i j c (on e vs) h a w s = absurd s
 
     -- ---- branches, arms and loops
-    picks : {bs : Branches} {i : ℕ} {a : Action} (s : St) → Nth bs i a → execBranch x bs (pos i) script r s ≡ exec x a script s
+    pub picks : {bs : Branches} {i : ℕ} {a : Action} (s : St) → Nth bs i a → execBranch x bs (pos i) script r s ≡ exec x a script s
     unfolding exec
     picks s here = refl
     picks s (further n) = picks s n
 
-    selects : {bs : Branches} {i : ℕ} {a : Action} (s : St) → Nth bs i a
+    pub selects : {bs : Branches} {i : ℕ} {a : Action} (s : St) → Nth bs i a
         → execAct x (select bs) script r s ≡ reading script r s (λ z u. execBranch x bs z script r u)
     unfolding exec
     selects s here = refl
     selects s (further n) = refl
 
-    takes : {z : ℤ} {m n : List ℤ} {arms : Arms} {a : Action} (i c : ℕ) (l : Label) (t : Taken x z m arms a n) → Sure t
+    pub takes : {z : ℤ} {m n : List ℤ} {arms : Arms} {a : Action} (i c : ℕ) (l : Label) (t : Taken x z m arms a n) → Sure t
         → execArms x arms z script r (made m i c l) ≡ exec x a script (made n i c l)
     unfolding exec Sure
     takes {z} {m} {n} i c l (this {p} {a} e) s =

@@ -15,7 +15,8 @@ use Rattle.model.proofs.Rows.{both-true}
 use Rattle.model.proofs.Bytes.{length-table}
 use Rattle.model.proofs.Masks.{sub-full}
 use Rattle.model.proofs.Passed.{Free, passed}
-use Rattle.demands.specs.Statements.{AreBytes, SetsAreLargest}
+use Rattle.demands.specs.Common.{AreBytes}
+use Rattle.demands.specs.Statements.{SetsAreLargest}
 use Rattle.demands.proofs.Whole.{whole}
 use Rattle.demands.proofs.GoodRows.{good-state}
 use Rattle.demands.proofs.Targets.{targets-lt}

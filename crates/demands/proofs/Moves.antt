@@ -9,7 +9,7 @@ use Rattle.model.specs.Image.{Tables, none}
 use Rattle.model.specs.Trees.{Exp, Pat, Offer, emit, receive, Gets, OfType, Action, at, Act, assign, choose, communicate, then, while}
 use Rattle.model.specs.Typing.{typeOfPat}
 use Rattle.model.specs.Run.{store, eval, test, matched, match, Label, ε, on, spoken, St, Res, gives, stored, charge, andThen, assigning, storing, choosing, offering}
-use Rattle.model.specs.Figure2.{Next, onto, ended, OfThe, accept, Accepts, all-run, runs, none-left, one-more, Evals, Chosen, update, getters, choosers, Sum, Does, d-assign, d-choose, d-communicate, d-then, d-leave, d-again, toll, cost, received, choices}
+use Rattle.model.specs.Figure2.{Next, onto, ended, OfThe, accept, Accepts, all-run, runs, none-left, one-more, Evals, Chosen, update, getters, choosers, Sum, Does, d-assign, d-choose, d-communicate, d-then, d-leave, d-again, toll, cost, received, choices, ReadsDefined}
 use Rattle.model.proofs.Run.{paid, heard, match-rule, charge-rule, readingOf-rule, valued-rule, tested-rule}
 use Rattle.demands.proofs.Hoare.{Post, Shown, weaken as weaken-shown, after as after-shown}
 use Rattle.demands.proofs.Script.{Reads, reads-both}
@@ -45,6 +45,7 @@ module _ (x : Tables) (script : List ℕ) where
   pub record Run (a : Action) (s : St) (units : ℕ) (o : Next) (u : St) : Type 0 where
     pub said : Label
     pub does : Does x a (s .store) said o (u .store)
+    pub sure : ReadsDefined does
     pub sum : Sum (s .label) said (u .label)
     pub pays : units ≡ cost does + u .left
     pub words : Reads script (s .words) (choices does) (u .words)
@@ -52,12 +53,13 @@ module _ (x : Tables) (script : List ℕ) where
   -- ---- actions made of actions
   pub pair : {a b : Action} {s u w : St} {j k : ℕ} {o : Next} (r n : ℕ) → Run a s j ended u → Run b u k o w → n + u .left ≡ toll r + (j + k)
       → Run (at r (then a b)) s n o w
-  unfolding cost choices
+  unfolding cost choices ReadsDefined
   pair {s = s} {u = u} {w = w} r n p q e =
       let l = sum-join (s .label) (p .said) (u .label) (q .said) (w .label) (p .sum) (q .sum) in
       record {
         said = l .0;
         does = d-then (p .does) (q .does) (l .1);
+        sure = (p .sure, q .sure);
         sum = l .2;
         pays = omega (arith, p .pays, q .pays);
         words = reads-both script (s .words) (choices (p .does)) (choices (q .does)) (u .words) (w .words) (p .words) (q .words);
@@ -65,17 +67,17 @@ module _ (x : Tables) (script : List ℕ) where
 
   pub leave : {a : Action} {s u : St} {j : ℕ} {q : State} (b : Action) (r n : ℕ) → Run a s j (onto q) u → n ≡ toll r + j
       → Run (at r (then a b)) s n (onto q) u
-  unfolding cost choices
-  leave b r n p e = record { said = p .said; does = d-leave (p .does); sum = p .sum; pays = omega (arith, p .pays); words = p .words }
+  unfolding cost choices ReadsDefined
+  leave b r n p e = record { said = p .said; does = d-leave (p .does); sure = p .sure; sum = p .sum; pays = omega (arith, p .pays); words = p .words }
 
   pub again : {e : Exp} {a : Action} {s u : St} {j : ℕ} {o : Next} (r : ℕ) → test x e (s .store) ≡ Holds
       → Run (at none (then a (at r (while e a)))) s j o u → Run (at r (while e a)) s (toll r + j) o u
-  unfolding cost choices
-  again r h p = record { said = p .said; does = d-again h (p .does); sum = p .sum; pays = omega (arith, p .pays); words = p .words }
+  unfolding cost choices ReadsDefined
+  again r h p = record { said = p .said; does = d-again h (p .does); sure = p .sure; sum = p .sum; pays = omega (arith, p .pays); words = p .words }
 
   -- with other units, whatever the state has left
   priced : {a : Action} {s u : St} {o : Next} {j : ℕ} (n k : ℕ) → Run a s j o u → j ≡ k → Run a (made (s .store) (s .words) n (s .label)) k o u
-  priced n k p e = record { said = p .said; does = p .does; sum = p .sum; pays = omega (arith, p .pays); words = p .words }
+  priced n k p e = record { said = p .said; does = p .does; sure = p .sure; sum = p .sum; pays = omega (arith, p .pays); words = p .words }
 
   pub charged : (r : ℕ) (a : Act) (s : St) (k : St → Res) → ((u : St) → Moves (Run (at r a) u (toll r + u .left)) (k u))
       → Moves (Run (at r a) s (s .left)) (charge r s k)
@@ -100,8 +102,8 @@ module _ (x : Tables) (script : List ℕ) where
       (λ z e. weaken (λ o u p. one-put e p) (storing-puts is r (store m (i .v) z) s)) (λ e. stops)
 
   put-run : {is : List Gets} {s u : St} {o : Next} (q : ℕ) → Put is (s .store) s o u → Run (at q (assign is)) s (toll q + s .left) o u
-  unfolding cost choices
-  put-run {s = s} q (put es) = record { said = ε; does = d-assign es; sum = sum-none (s .label); pays = refl; words = refl }
+  unfolding cost choices ReadsDefined
+  put-run {s = s} q (put es) = record { said = ε; does = d-assign es; sure = tt; sum = sum-none (s .label); pays = refl; words = refl }
 
   -- an assignment at row q, its refusals at row r
   pub assigned : (is : List Gets) (q r : ℕ) (s : St) → Moves (Run (at q (assign is)) s (toll q + s .left)) (assigning x is r s)
@@ -126,8 +128,8 @@ module _ (x : Tables) (script : List ℕ) where
       (λ l t. weaken (λ o u p. one-chosen t l refl p) (choosing-chose is e r _)) (λ l t. stops) (λ l. stops)
 
   pub chose-run : {is : List OfType} {e : Exp} {s u : St} {o : Next} (r : ℕ) → Chose is e s o u → Run (at r (choose is e)) s (toll r + s .left) o u
-  unfolding cost choices
-  chose-run {s = s} r (chose j c h p) = record { said = ε; does = d-choose c h; sum = sum-none (s .label); pays = refl; words = p }
+  unfolding cost choices ReadsDefined
+  chose-run {s = s} r (chose j c h p) = record { said = ε; does = d-choose c h; sure = tt; sum = sum-none (s .label); pays = refl; words = p }
 
   pub data Spoke (g : Gate) (os : List Offer) (vs : List ℤ) (s : St) : Next → St → Type 0 where
     spoke : {zs n : List ℤ} (j : ℕ) → Accepts x os zs (s .store) n → Reads script (s .words) (received os zs) j
@@ -162,5 +164,5 @@ module _ (x : Tables) (script : List ℕ) where
 
   pub spoke-run : {g : Gate} {os : List Offer} {s u : St} {o : Next} (r : ℕ) → spoken (s .label) ≡ false → Spoke g os [] s o u
       → Run (at r (communicate g os)) s (toll r + s .left) o u
-  unfolding cost choices
-  spoke-run {s = s} r e (spoke j a p) = record { said = on _ _; does = d-communicate a; sum = sum-first (s .label) _ e; pays = refl; words = p }
+  unfolding cost choices ReadsDefined
+  spoke-run {s = s} r e (spoke j a p) = record { said = on _ _; does = d-communicate a; sure = tt; sum = sum-first (s .label) _ e; pays = refl; words = p }

@@ -11,7 +11,7 @@ use Rattle.model.specs.Decode.{act}
 use Rattle.model.specs.Trees.{Exp, Action, at, Act, null, assign, choose, reset, communicate, to, then, select, case, while, for, Branches, noBranch, branch, someBranch, Arms, noArm, arm}
 use Rattle.model.specs.Run.{store, eval, test, match, Label, ε, spoken, labelWords, St, Res, gives, stored, charge, communicating, looping, atMostHigh, toLow, onward, exec, execAct, execBranch, execArms}
 use Rattle.model.specs.Calls.{stepVerdict, attempt, StepDone, movedAs, steppedAs, step}
-use Rattle.model.specs.Figure2.{Next, Nth, here, further, Taken, this, later, expansion, d-null, d-to, d-reset, d-select, d-case, d-done, d-for, toll, cost, choices}
+use Rattle.model.specs.Figure2.{Next, Nth, here, further, Taken, this, later, expansion, d-null, d-to, d-reset, d-select, d-case, d-done, d-for, toll, cost, choices, Sure, ReadsDefined}
 use Rattle.model.proofs.Run.{heard, if-rule, match-rule, reading-rule, valued-rule, tested-rule, looping-step}
 use Rattle.demands.specs.Statements.{Transition, MovesAreTransitions}
 use Rattle.demands.proofs.Script.{reads-length, reads-table}
@@ -22,14 +22,14 @@ module _ (x : Tables) (script : List ℕ) where
   -- ---- loops, branches and arms
   looping-run : (n r : ℕ) (e : Exp) (a : Action) (body : St → Res) → ((u : St) → Moves (Run x script a u (u .left)) (body u)) → (s : St)
       → Moves (Run x script (at r (while e a)) s (toll r + s .left)) (looping n x e body r s)
-  unfolding looping cost choices
+  unfolding looping cost choices ReadsDefined
   looping-run zero r e a body h s = stops
   looping-run (suc n) r e a body h s =
       let K = Moves (Run x script (at r (while e a)) s (toll r + s .left)) in
       rw (looping-step x e body r n s) (tested-rule K (test x e (s .store)) r s _ _
       (λ t. after (λ u. charge r u (looping n x e body r)) (λ q u p. again x script r t (leave x script _ none _ p (omega arith)))
       (λ u p. weaken (λ o w q. again x script r t (pair x script none _ p q (omega arith))) (charged x script r (while e a) u _ (looping-run n r e a body h))) (h s))
-      (λ t. ends (record { said = ε; does = d-done t; sum = sum-none (s .label); pays = refl; words = refl }))
+      (λ t. ends (record { said = ε; does = d-done t; sure = tt; sum = sum-none (s .label); pays = refl; words = refl }))
       (λ t. stops))
 
   record Picked (bs : Branches) (z : ℤ) (s : St) (o : Next) (u : St) : Type 0 where
@@ -43,43 +43,44 @@ module _ (x : Tables) (script : List ℕ) where
     action : Action
     store : List ℤ
     taken : Taken x z (s .store) arms action store
+    sure : Sure taken
     run : Run x script action (stored store s) (s .left) o u
 
   picked-run : {bs : Branches} {s u : St} {o : Next} (r : ℕ) → s .words < length script / 4 → Picked bs (wordAt script (s .words)) (heard s) o u
       → Run x script (at r (select bs)) s (toll r + s .left) o u
-  unfolding cost choices
+  unfolding cost choices ReadsDefined
   picked-run r l p =
       let q = p .run in
-      record { said = q .said; does = d-select (p .nth) (q .does); sum = q .sum; pays = omega (arith, q .pays); words = (l, p .is, q .words) }
+      record { said = q .said; does = d-select (p .nth) (q .does); sure = q .sure; sum = q .sum; pays = omega (arith, q .pays); words = (l, p .is, q .words) }
 
   armed-run : {e : Exp} {arms : Arms} {z : ℤ} {s u : St} {o : Next} (r : ℕ) → eval x e (s .store) ≡ Is z → Armed arms z s o u
       → Run x script (at r (case e arms)) s (toll r + s .left) o u
-  unfolding cost choices
+  unfolding cost choices ReadsDefined
   armed-run r h p =
       let q = p .run in
-      record { said = q .said; does = d-case h (p .taken) (q .does); sum = q .sum; pays = omega (arith, q .pays); words = q .words }
+      record { said = q .said; does = d-case h (p .taken) (q .does); sure = (p .sure, q .sure); sum = q .sum; pays = omega (arith, q .pays); words = q .words }
 
   for-run : {v : Variable} {low high : ℤ} {a : Action} {s u : St} {o : Next} {j : ℕ} (r : ℕ) → Run x script (expansion r v low high a) s j o u
       → Run x script (at r (for v low high a)) s j o u
-  unfolding cost choices
-  for-run r p = record { said = p .said; does = d-for (p .does); sum = p .sum; pays = p .pays; words = p .words }
+  unfolding cost choices ReadsDefined
+  for-run r p = record { said = p .said; does = d-for (p .does); sure = p .sure; sum = p .sum; pays = p .pays; words = p .words }
 
   -- ---- every action
   mutual
-    unfolding exec communicating cost choices
+    unfolding exec communicating cost choices ReadsDefined Sure
 
-    sound : (a : Action) (s : St) → Moves (Run x script a s (s .left)) (exec x a script s)
+    pub sound : (a : Action) (s : St) → Moves (Run x script a s (s .left)) (exec x a script s)
     sound (at r a) s = charged x script r a s _ (λ u. sound-act a r u)
 
     sound-act : (a : Act) (r : ℕ) (s : St) → Moves (Run x script (at r a) s (toll r + s .left)) (execAct x a script r s)
-    sound-act null r s = ends (record { said = ε; does = d-null; sum = sum-none (s .label); pays = refl; words = refl })
+    sound-act null r s = ends (record { said = ε; does = d-null; sure = tt; sum = sum-none (s .label); pays = refl; words = refl })
     sound-act (assign is) r s = assigned x script is r r s
     sound-act (choose is e) r s = weaken (λ o u p. chose-run x script r p) (choosing-chose x script is e r s)
-    sound-act (reset vs) r s = ends (record { said = ε; does = d-reset; sum = sum-none (s .label); pays = refl; words = refl })
+    sound-act (reset vs) r s = ends (record { said = ε; does = d-reset; sure = tt; sum = sum-none (s .label); pays = refl; words = refl })
     sound-act (communicate g os) r s =
         if-rule (Moves (Run x script (at r (communicate g os)) s (toll r + s .left))) (spoken (s .label)) _ _ (λ e. stops)
         (λ e. weaken (λ o u p. spoke-run x script r e p) (offering-spoke x script g os [] r s))
-    sound-act (to q) r s = jumps (record { said = ε; does = d-to; sum = sum-none (s .label); pays = refl; words = refl })
+    sound-act (to q) r s = jumps (record { said = ε; does = d-to; sure = tt; sum = sum-none (s .label); pays = refl; words = refl })
     sound-act (then a b) r s =
         after (λ u. exec x b script u) (λ q u p. leave x script b r _ p refl) (λ u p. weaken (λ o w q. pair x script r _ p q (omega arith)) (sound b u)) (sound a s)
     sound-act (select bs) r s =
@@ -111,8 +112,8 @@ module _ (x : Tables) (script : List ℕ) where
     sound-arms noArm z r s = stops
     sound-arms (arm p a rest) z r s =
         match-rule (Moves (Armed (arm p a rest) z s)) (match x p z (s .store)) _ _ _
-        (λ m h. weaken (λ o u q. record { action = a; store = m; taken = this (match-found x p z (s .store) m h); run = q }) (sound a (stored m s)))
-        (λ h. weaken (λ o u q. record { action = q .action; store = q .store; taken = later (match-fail x p z (s .store) h) (q .taken); run = q .run })
+        (λ m h. weaken (λ o u q. record { action = a; store = m; taken = this (match-found x p z (s .store) m h); sure = tt; run = q }) (sound a (stored m s)))
+        (λ h. weaken (λ o u q. record { action = q .action; store = q .store; taken = later (match-fail x p z (s .store) h) (q .taken); sure = (h, q .sure); run = q .run })
         (sound-arms rest z r s)) (λ h. stops)
 
 -- ---- step
@@ -130,6 +131,7 @@ module _ (x : Tables) (q : State) (store : List ℤ) (script : List ℕ) (budget
       (record {
         said = p .said;
         derivation = p .does;
+        reads = p .sure;
         ten = ap (λ (l : Label). labelWords l ++ drop 10 label) (sym (p .sum));
         units = omega (arith, p .pays);
         words = ap (table (wordAt script) 0) k ∙ reads-table script 0 (choices (p .does)) (u .words) (p .words);

@@ -12,7 +12,7 @@ use Rattle.model.specs.Calls.{imageVerdict}
 use Rattle.model.proofs.Rows.{both-true}
 use Rattle.model.proofs.Bytes.{halfAt-bytes, getD-table, length-table}
 use Rattle.model.proofs.Passed.{Free, passed}
-use Rattle.demands.specs.Statements.{AreBytes}
+use Rattle.demands.specs.Common.{AreBytes}
 
 -- two bytes a field
 pub record Small (w : Fields) : Type 0 where

@@ -12,20 +12,19 @@ use Rattle.model.specs.Masks.{Has}
 use Rattle.model.specs.Largest.{Reached, Largest, topOf, reachedOf, setsOf}
 use Rattle.model.specs.Trees.{Action}
 use Rattle.model.specs.Speech.{wellSpoken}
+use Rattle.demands.specs.Common.{AreBytes}
 use Rattle.demands.specs.Figures.{wellDef}
+use Rattle.demands.specs.Judgements.{RulesAreJudgements}
 use Rattle.model.specs.Run.{Label, spoken, labelWords, defined}
 use Rattle.model.specs.Calls.{imageVerdict, Checked, check, Started, start, slotOfType, slotFits, attempt, StepDone, step}
 use Rattle.model.specs.Figure2.{onto, Does, cost, choices, ReadsDefined}
-
--- an image is bytes
-pub record AreBytes (s : List ℕ) : Type 0 where
-  pub each : (j : ℕ) → getD s j 0 < 256
 
 -- 1. Where step moves, there is a derivation of Figure 2 from the state's action and the store, with the label given, the next
 -- state and the new store; its cost is the units used, its choices are the words read
 pub record Transition (x : Tables) (q : State) (store : List ℤ) (script : List ℕ) (label : List ℤ) (m : Move) (d : StepDone) : Type 0 where
   pub said : Label
   pub derivation : Does x (act x (q .0)) store said (onto (m .next)) (d .store)
+  pub reads : ReadsDefined derivation
   pub ten : d .label ≡ labelWords said ++ drop 10 label
   pub units : m .units ≡ cost derivation
   pub words : table (wordAt script) 0 (m .words) ≡ choices derivation
@@ -137,3 +136,5 @@ pub record Demands : Type 0 where
   pub determined : AnswersAreDetermined
   pub shutOut : ShutOut
   pub speech : SpeechIsFigures
+  -- 8. Refusals 8 and 9 are the report's judgements A.2 and A.1
+  pub rules : RulesAreJudgements

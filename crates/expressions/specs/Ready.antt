@@ -7,7 +7,7 @@ use Rattle.model.specs.Image.{trailerOf, tablesOf, rowCount, fieldsOf}
 use Rattle.model.specs.Rows.{Kind, expression, isKind}
 use Rattle.model.specs.Calls.{imageVerdict}
 use Rattle.image.specs.Located.{Located}
-use Rattle.demands.specs.Statements.{AreBytes}
+use Rattle.demands.specs.Common.{AreBytes}
 use Rattle.demands.specs.Stores.{TypedStore}
 
 -- an image free of 1 to 9 and a store that passes 13 and 18

@@ -15,7 +15,7 @@ use Rattle.model.proofs.Order.{after-both, unless-true}
 use Rattle.model.proofs.Bytes.{numberAt-in}
 use Rattle.words.proofs.Words.{length-signedWords}
 use Rattle.image.proofs.Laid.{laid, variables-count, states-count}
-use Rattle.demands.specs.Statements.{AreBytes}
+use Rattle.demands.specs.Common.{AreBytes}
 use Rattle.stepping.specs.Stepping.{slotsVerdict, roomVerdict, runVerdict}
 use Rattle.stepping.proofs.Moved.{not-moved, moves, moved-words, same-answer}
 use Rattle.image.proofs.Accepted.{accepted-located}

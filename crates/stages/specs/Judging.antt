@@ -8,7 +8,7 @@ use Rattle.model.specs.Image.{Tables, trailerOf, tablesOf, rowCount}
 use Rattle.model.specs.Largest.{reachedOf, setsOf, initialised}
 use Rattle.model.specs.Calls.{rowsVerdict, rulesVerdict, imageVerdict, flowVerdict, checkVerdict}
 use Rattle.image.specs.Located.{Rooted, headerVerdict}
-use Rattle.demands.specs.Statements.{AreBytes}
+use Rattle.demands.specs.Common.{AreBytes}
 use Rattle.masks.specs.Masks.{Filled}
 use Rattle.masks.specs.Rows.{Lent}
 

@@ -11,7 +11,7 @@ use Rattle.model.specs.Calls.{imageVerdict, stepVerdict, attempt, StepDone, sta
 use Rattle.model.proofs.Order.{after-both}
 use Rattle.model.proofs.Passed.{passed}
 use Rattle.image.proofs.Laid.{laid, rows-count}
-use Rattle.demands.specs.Statements.{AreBytes}
+use Rattle.demands.specs.Common.{AreBytes}
 use Rattle.demands.proofs.Whole.{whole}
 use Rattle.machine.proofs.Words.{exec-words, reads-action}
 use Rattle.stepping.specs.Stepping.{runVerdict, ran}
