@@ -19,7 +19,7 @@ use words::word;
 
 // What a run threads beside the store: the words read, the units left, and what has been said: its gate and the number of
 // its values.
-#[derive(Drop)]
+#[derive(Clone, Copy)]
 pub struct Run {
     pub words: usize,
     pub left: usize,
@@ -29,14 +29,14 @@ pub struct Run {
 }
 
 // How an action ended, and what it threads on.
-#[derive(Drop)]
+#[derive(Clone, Copy)]
 pub struct Ran {
     pub out: Outcome,
     pub run: Run,
 }
 
 // A word of the script: a value of its type; or there is none; or it is no such value.
-#[derive(Drop)]
+#[derive(Clone, Copy)]
 pub enum Word {
     Read(i32),
     Ended,

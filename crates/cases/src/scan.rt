@@ -2,7 +2,7 @@
 use crate::put::bytes_of;
 
 // Where the reading stands.
-#[derive(Drop)]
+#[derive(Clone, Copy)]
 pub struct Reading {
     // 0 is room, 5 the trailer.
     pub section: u16,

@@ -45,11 +45,11 @@ module _ (x : Tables) where
     reading_of-is t s k z l w h = reading_of-word x t script r s k l (rw w h) ∙ ap (λ (y : ℤ). k y (heard s)) w
 
     -- ---- actions that hold none
-    pub puts : {is : List Gets} {zs : List ℤ} (m : List ℤ) (s : St) → Evals x s.store is zs
+    pub puts : (s : St) {is : List Gets} {zs : List ℤ} (m : List ℤ) → Evals x s.store is zs
         → storing x is r m s ≡ gives Ends (stored (update m (getters is) zs) s)
     unfolding storing update
-    puts m s none_left = refl
-    puts m s (one_more {i} {is} {z} e es) = valued-is (eval x i.e s.store) r s _ z e ∙ puts (store m i.v z) s es
+    puts s m none_left = refl
+    puts s m (one_more {i} {is} {z} e es) = valued-is (eval x i.e s.store) r s _ z e ∙ puts s (store m i.v z) es
 
     chooses : {is : List OfType} {zs : List ℤ} (e : Exp) (m : List ℤ) (i j n : ℕ) (l : Label) → Chosen x is zs
         → test x e (update m (choosers is) zs) ≡ Holds → Reads script i zs j
@@ -144,7 +144,7 @@ module _ (x : Tables) where
   derived (d-null {r} {m}) f y script i j left k h w s = enter script r null m i _ left k refl ∙ rests Ends m i j left k h w s
   derived (d-to {r} {q} {m}) f y script i j left k h w s = enter script r (to q) m i _ left k refl ∙ rests (Jumps q) m i j left k h w s
   derived (d-assign {r} {is} {m} p) f y script i j left k h w s =
-      enter script r (assign is) m i _ left k refl ∙ puts script r m (made m i left k) p ∙ rests Ends _ i j left k h w s
+      enter script r (assign is) m i _ left k refl ∙ puts script r (made m i left k) m p ∙ rests Ends _ i j left k h w s
   derived (d-choose {r} {is} {e} {m} p q) f y script i j left k h w s =
       enter script r (choose is e) m i _ left k refl ∙ chooses script r e m i j left k p q w ∙ rests Ends _ j j left k h refl s
   derived (d-reset {r} {vs} {m}) f y script i j left k h w s = enter script r (reset vs) m i _ left k refl ∙ rests Ends _ i j left k h w s

@@ -7,7 +7,7 @@ use Rattle.model.specs.declared.{Variable.Variable}
 use Rattle.model.specs.Values.{of_size}
 use Rattle.model.specs.Image.{Tables, bool, int, size_of, type_of}
 use Rattle.model.specs.Trees.{Exp, var, const, unary, binary, Pat, any, bind, equals, guarded, Offer, emit, receive, Gets, OfType, Action, at, Act, null, assign, choose, reset, communicate, to, then, select, case, while, for, Branches, no_branch, branch as a_branch, Arms, no_arm, arm as an_arm}
-use Rattle.model.specs.Typing.{type_of_exp, type_of_pat, typed_exp, typed}
+use Rattle.model.specs.Typing.{type_of_exp, type_of_pat, typed_exp}
 use Rattle.model.specs.Binding.{bound_act}
 use Rattle.demands.proofs.All.{All}
 

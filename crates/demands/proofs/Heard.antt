@@ -206,8 +206,8 @@ module _ (x : Tables) (w : Whole x) where
     speaks-branch no_branch m z script r s g h e = record { says = fine 24 refl }
     speaks-branch (branch a bs) m z script r s g h e =
         let p = both_true (speech x m a).right _ h in
-        elim z [
-          | pos n ↦ elim n [
+        elim z as (λ k. Shown (SpeaksBy m (speech_branches x m (branch a bs))) (exec_branch x (branch a bs) k script r s)) [
+          | pos n ↦ elim n as (λ k. Shown (SpeaksBy m (speech_branches x m (branch a bs))) (exec_branch x (branch a bs) (pos k) script r s)) [
             | zero ↦ eased (either_left (speech x m a) (speech_branches x m bs)) (λ d. d) (speaks a m script s g.0 p.0 e)
             | suc k ↦
                 eased (either-right (speech x m a) (speech_branches x m bs)) (λ d. d)

@@ -104,8 +104,8 @@ module _ (x : Tables) (w : Whole x) where
         let e = ends_branches top b bs in
         let i : ℕ → ℕ = λ q. jumps q top b a in
         let j : ℕ → ℕ = λ q. jumps_branches q top b bs in
-        elim z [
-          | pos n ↦ elim n [
+        elim z as (λ k. Shown (Sound x (meet d e) (λ q. meet (i q) (j q))) (exec_branch x (branch a bs) k script r s)) [
+          | pos n ↦ elim n as (λ k. Shown (Sound x (meet d e) (λ q. meet (i q) (j q))) (exec_branch x (branch a bs) (pos k) script r s)) [
             | zero ↦ first x d e i j (sound a b script s g.0 p.0 h)
             | suc k ↦ second x d e i j (sound-branch bs b (pos k) script r s g.1 p.1 h)
           ]

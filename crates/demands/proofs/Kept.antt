@@ -112,8 +112,8 @@ module _ (x : Tables) (w : Whole x) where
         → Shown (Kept x) (exec_branch x bs z script r s)
     kept-branch no_branch z script r s g t = stop
     kept-branch (branch a bs) z script r s g t =
-        elim z [
-          | pos n ↦ elim n [ zero ↦ kept a script s g.0 t | suc k ↦ kept-branch bs (pos k) script r s g.1 t ]
+        elim z as (λ k. Shown (Kept x) (exec_branch x (branch a bs) k script r s)) [
+          | pos n ↦ elim n as (λ k. Shown (Kept x) (exec_branch x (branch a bs) (pos k) script r s)) [ zero ↦ kept a script s g.0 t | suc k ↦ kept-branch bs (pos k) script r s g.1 t ]
           | negsuc n ↦ stop
         ]
 

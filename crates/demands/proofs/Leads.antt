@@ -90,8 +90,8 @@ module _ (x : Tables) where
     leads-branch (branch a bs) z script r s =
         let t = targets a in
         let u = targets_branches bs in
-        elim z [
-          | pos n ↦ elim n [
+        elim z as (λ k. Shown (To (join t u)) (exec_branch x (branch a bs) k script r s)) [
+          | pos n ↦ elim n as (λ k. Shown (To (join t u)) (exec_branch x (branch a bs) (pos k) script r s)) [
             | zero ↦ wide t (join t u) (join-left t u) (leads a script s)
             | suc k ↦ wide u (join t u) (join-right t u) (leads-branch bs (pos k) script r s)
           ]

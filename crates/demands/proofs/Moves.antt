@@ -89,7 +89,7 @@ module _ (x : Tables) (script : List ℕ) where
   data Put (is : List Gets) (m : List ℤ) (s : St) : Next → St → Type 0 where
     put : {zs : List ℤ} → Evals x s.store is zs → Put is m s ended (stored (update m (getters is) zs) s)
 
-  one-put : {i : Gets} {is : List Gets} {m : List ℤ} {s u : St} {o : Next} {z : ℤ} → eval x i.e s.store ≡ Is z → Put is (store m i.v z) s o u
+  one-put : {i : Gets} {is : List Gets} {m : List ℤ} {z : ℤ} {s u : St} {o : Next} → eval x i.e s.store ≡ Is z → Put is (store m i.v z) s o u
       → Put (i ∷ is) m s o u
   unfolding update
   one-put e (put es) = put (one_more e es)
@@ -113,7 +113,7 @@ module _ (x : Tables) (script : List ℕ) where
     chose : {zs : List ℤ} (j : ℕ) → Chosen x is zs → test x e (update s.store (choosers is) zs) ≡ Holds → Reads script s.words zs j
         → Chose is e s ended (made (update s.store (choosers is) zs) j s.left s.label)
 
-  one-chosen : {i : OfType} {is : List OfType} {e : Exp} {s u : St} {o : Next} {z : ℤ} → OfThe x i.t z → s.words < length script / 4
+  one-chosen : {i : OfType} {is : List OfType} {e : Exp} {z : ℤ} {s u : St} {o : Next} → OfThe x i.t z → s.words < length script / 4
       → word_at script s.words ≡ z → Chose is e (stored (store s.store i.v z) (heard s)) o u → Chose (i ∷ is) e s o u
   unfolding update
   one-chosen t l w (chose j c h p) = chose j (one_more t c) h (l, w, p)

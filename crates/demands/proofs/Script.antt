@@ -59,7 +59,7 @@ module _ (b : List ℕ) (four : length b ≡ 4) (s : List ℕ) where
 
 -- the script of zs, and any bytes after it
 pub reads-script : (zs : List ℤ) (rest : List ℕ) → All Word zs → Reads (script_of zs ++ rest) 0 zs (length zs)
-unfolding script_of
+unfolding script_of bytes_of
 reads-script [] rest nil = refl
 reads-script (z ∷ zs) rest (cons h hs) =
     let b = bytes_of 4 (unsigned (2 ^ 31) z) in

@@ -22,14 +22,14 @@ use ntif::check;
 use text::emit;
 
 // What can have been said on the ways that lead to a row: on these gates; or nothing.
-#[derive(Drop)]
+#[derive(Clone, Copy)]
 pub struct Said {
     pub gates: u64,
     pub quiet: bool,
 }
 
 // The parts of a row, and how they are gone through: 0 none, 1 one after the other, 2 one or the other, 3 again and again.
-#[derive(Drop)]
+#[derive(Clone, Copy)]
 pub struct Parts {
     pub first: u16,
     pub second: u16,
@@ -37,7 +37,7 @@ pub struct Parts {
 }
 
 // Where the text ends after a row's arrows, and what is said after the row.
-#[derive(Drop)]
+#[derive(Clone, Copy)]
 pub struct Walk {
     pub at: usize,
     pub said: Said,

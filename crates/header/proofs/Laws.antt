@@ -84,11 +84,11 @@ unfolding entries_fit
 entries-end n l v h = rw (drop_of_length-le l {i = v} h)
 
 -- a call's answer that was tested
-pub passes : {r t : Bool} → r ≡ t → not r ≡ false → t ≡ true
-passes {r} e f = sym e ∙ not-false r f
+pub passes : {r t : Bool} → r ≡ t → r ≡ true → t ≡ true
+passes e f = sym e ∙ f
 
-pub fails : {r t : Bool} → r ≡ t → not r ≡ true → t ≡ false
-fails {r} e f = sym e ∙ not-true r f
+pub fails : {r t : Bool} → r ≡ t → r ≡ false → t ≡ false
+fails e f = sym e ∙ f
 
 pub chain-last : (a b c : Bool) → a ≡ true → c ≡ b → c ≡ (a && b)
 chain-last a b c e f = rw e f

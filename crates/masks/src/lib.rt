@@ -56,7 +56,7 @@ fn joined(masks: &[u64], a: u16, b: u16) -> u64
 }
 
 // The masks of a row: the variables that it uses, those that it defines or resets, the states that it leads to.
-#[derive(Drop)]
+#[derive(Clone, Copy)]
 pub struct Masks(pub u64, pub u64, pub u64);
 
 // The masks of a row from its fields and the masks of lower rows: what it names, and its own variable or state. An action

@@ -5,23 +5,23 @@ ghost use Rattle.model.specs.Limits.{limits};
 ghost use Rattle.model.specs.Answers.{number, place};
 
 // A state of the report's set of states.
-#[derive(Drop)]
+#[derive(Clone, Copy)]
 pub struct State(pub u16);
 
 // A variable of the report's set of variables.
-#[derive(Drop)]
+#[derive(Clone, Copy)]
 pub struct Variable(pub u16);
 
 // A gate of the report's set of gates; gate 0 is τ.
-#[derive(Drop)]
+#[derive(Clone, Copy)]
 pub struct Gate(pub u16);
 
 // A row of an image, by its number.
-#[derive(Drop)]
+#[derive(Clone, Copy)]
 pub struct Row(pub u16);
 
 // The four fields of a row.
-#[derive(Drop)]
+#[derive(Clone, Copy)]
 pub struct Fields {
     pub code: u16,
     pub a: u16,
@@ -31,7 +31,7 @@ pub struct Fields {
 
 // An image, by the fields of its trailer in their order: the starts of its four tables, its number of gates, the row of
 // its initial condition, its length.
-#[derive(Drop)]
+#[derive(Clone, Copy)]
 pub struct Image {
     pub types: u16,
     pub variables: u16,
@@ -43,7 +43,7 @@ pub struct Image {
 }
 
 // The limits once more as values, so that a definition can name them.
-#[derive(Drop)]
+#[derive(Clone, Copy)]
 pub struct Bounds {
     pub types_least: u16,
     pub types: u16,
@@ -148,7 +148,7 @@ impl Image {
 }
 
 // What is given instead of an answer: a case for each number of the table, two for 6, with its place.
-#[derive(Drop)]
+#[derive(Clone, Copy)]
 pub enum Refusal {
     ImageLength,
     MarkOrLength,
@@ -256,35 +256,35 @@ impl Refusal {
 }
 
 // What check and start give, and each stage of the calls.
-#[derive(Drop)]
+#[derive(Clone, Copy)]
 pub enum Verdict {
     Accepted,
     Refused(Refusal),
 }
 
 // A step that moves: the next state, the words read, the units used.
-#[derive(Drop)]
+#[derive(Clone, Copy)]
 pub struct Move {
     pub next: State,
     pub words: u32,
     pub units: u32,
 }
 
-#[derive(Drop)]
+#[derive(Clone, Copy)]
 pub enum Stepped {
     Moved(Move),
     NotMoved(Refusal),
 }
 
 // The value of an expression, or that it reads an undefined variable.
-#[derive(Drop)]
+#[derive(Clone, Copy)]
 pub enum Value {
     Is(i32),
     Unknown,
 }
 
 // A condition: a bool expression tested.
-#[derive(Drop)]
+#[derive(Clone, Copy)]
 pub enum Tested {
     Holds,
     Fails,
@@ -292,7 +292,7 @@ pub enum Tested {
 }
 
 // How the run of an action ends: without a jump, by a jump, or with a refusal.
-#[derive(Drop)]
+#[derive(Clone, Copy)]
 pub enum Outcome {
     Ends,
     Jumps(State),

@@ -20,7 +20,7 @@ pub mod tables;
 pub mod whole;
 
 // A row to be written: after which words, how many lines of the notation on, how deep.
-#[derive(Drop)]
+#[derive(Clone, Copy)]
 pub struct Aim {
     pub row: u16,
     pub lead: u8,
@@ -29,7 +29,7 @@ pub struct Aim {
 }
 
 // How an image is written: the row and the state that are pointed at, or none; whether as the text of a graph's node.
-#[derive(Drop)]
+#[derive(Clone, Copy)]
 pub struct Style {
     pub place: u16,
     pub state: u16,
@@ -37,7 +37,7 @@ pub struct Style {
 }
 
 // A line of the notation, and the fields that fill it in.
-#[derive(Drop)]
+#[derive(Clone, Copy)]
 pub struct Filling {
     pub line: u32,
     pub fields: Fields,

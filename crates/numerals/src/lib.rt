@@ -5,14 +5,14 @@ ghost use Rattle.numerals.specs.Numerals.{is_digit, further, saying, fits, word_
 use values::round;
 
 // What digits say, or that they aren't digits alone.
-#[derive(Drop)]
+#[derive(Clone, Copy)]
 pub enum Said {
     Is(u32),
     Nothing,
 }
 
 // A number, the two dashes that end a list of numbers, or neither.
-#[derive(Drop)]
+#[derive(Clone, Copy)]
 pub enum Word {
     Number(i32),
     Dashes,

@@ -21,7 +21,7 @@ use typing::type_of_pattern;
 const EMIT: u16 = 40;
 
 // What an offer gives, and the words read then.
-#[derive(Drop)]
+#[derive(Clone, Copy)]
 pub enum Offered {
     Gave(i32, usize),
     Refused(Refusal, usize),

@@ -19,7 +19,7 @@ const CONSTANT: u16 = 34;
 const WHERE: u16 = 35;
 
 // What a match gives.
-#[derive(Drop)]
+#[derive(Clone, Copy)]
 pub enum Match {
     Matched,
     Failed,
@@ -27,7 +27,7 @@ pub enum Match {
 }
 
 // The action's row of the first arm that matches.
-#[derive(Drop)]
+#[derive(Clone, Copy)]
 pub enum Found {
     Arm(u16),
     NoArm,
@@ -35,7 +35,7 @@ pub enum Found {
 }
 
 // The slot that a pattern's variable was bound in, and what it held.
-#[derive(Drop)]
+#[derive(Clone, Copy)]
 enum Old {
     Nothing,
     Was(u16, i32),

@@ -89,7 +89,7 @@ pub const NEXT: u32 = 0xE;
 pub const PLAIN: u32 = 0xF;
 
 // A line of the table.
-#[derive(Drop)]
+#[derive(Clone, Copy)]
 pub struct Line {
     pub kind: u32,
     pub form: u32,

@@ -7,7 +7,7 @@ use numerals::{Word, read};
 use words::put_words;
 
 // The first argument: help, or whether check may refuse.
-#[derive(Drop)]
+#[derive(Clone, Copy)]
 pub enum Wish {
     Help,
     Unchecked,
@@ -62,7 +62,7 @@ fn complain(what: &[u8], i: usize) {
 }
 
 // Numbers taken from the arguments: how many, and where the reading ended; wrong where it's said already why.
-#[derive(Drop)]
+#[derive(Clone, Copy)]
 struct Taken {
     count: usize,
     next: usize,

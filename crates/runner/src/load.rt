@@ -6,7 +6,7 @@ use model::Image;
 // One byte more than an image may have is read, so that a longer one is refused.
 const ROOM: usize = Image::LENGTH as usize + 1;
 
-#[derive(Drop)]
+#[derive(Clone, Copy)]
 enum Loaded {
     Bytes(usize),
     Failed,

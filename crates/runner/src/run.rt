@@ -12,7 +12,7 @@ const STEPS: u32 = 1000;
 const VARIABLES: usize = Image::VARIABLES as usize;
 
 // Where a run stands: the state, the bytes of the script read so far, and whether a step was refused there.
-#[derive(Drop)]
+#[derive(Clone, Copy)]
 struct Place {
     state: State,
     read: usize,

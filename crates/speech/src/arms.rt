@@ -39,7 +39,7 @@ fn type_of(image: &[u8], i: Image, r: u16) -> u16
 }
 
 // What the arms of a case catch: every value; those of the values 0 to 63, as a mask.
-#[derive(Drop)]
+#[derive(Clone, Copy)]
 struct Caught {
     all: bool,
     values: u64,

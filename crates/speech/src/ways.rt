@@ -8,7 +8,7 @@ ghost use Rattle.speech.specs.Filled.{first_of};
 use model::Image;
 
 // How an action entered in one mode can end, and whether all that can be entered is right.
-#[derive(Drop)]
+#[derive(Clone, Copy)]
 pub struct Ways {
     pub right: bool,
     pub quiet: bool,
@@ -93,7 +93,7 @@ impl Ways {
 }
 
 // The ways of an action entered quiet, and entered spoken.
-#[derive(Drop)]
+#[derive(Clone, Copy)]
 pub struct Modes {
     pub quiet: Ways,
     pub spoken: Ways,

@@ -18,7 +18,7 @@ fn trailer(s: Reading, image: &mut [u8]) {
 }
 
 // The length of the image, or none for a line that is not of the form.
-#[derive(Drop)]
+#[derive(Clone, Copy)]
 pub enum Length {
     Bytes(usize),
     Bad,

@@ -3,7 +3,7 @@ use crate::put::{bytes_of, slot};
 use std::num::wrapping_sub_u32;
 
 // Where the reading stands.
-#[derive(Drop)]
+#[derive(Clone, Copy)]
 pub struct Reading {
     // 1 is a step's numbers, 2 the store, 3 the words given, 4 the types, 8 the trailer.
     pub section: u16,

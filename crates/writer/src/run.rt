@@ -16,7 +16,7 @@ const UNITS: u32 = 100;
 const STEPS: u32 = 1000;
 
 // Where a run stands: the state, and whether the run has ended there.
-#[derive(Drop)]
+#[derive(Clone, Copy)]
 struct Place {
     state: State,
     ended: bool,

@@ -1,0 +1,17 @@
+-- `binding::bound_offers` meets its contract. The loop's invariant: the rule of the rest of the list is that of the whole.
+-- Assumes nothing.
+use mathlib.Core.Path.{◌≡◌, refl, ◌∙◌}
+use Prim.Native.Nat.{◌+◌, ◌%◌}
+use borrow.Author.Rules.{rules}
+use borrow.Author.Tests.{not-true, not-false}
+use Rattle.model.specs.Image.{tables_of}
+use Rattle.model.specs.Decode.{offers_at}
+use Rattle.binding.specs.Bound.{bound_offers, Offers}
+use Rattle.binding.proofs.OfferLists.{offers-over, offer-row, offer-next, offer-less, offer-defines, offer-uses, offer-passes}
+use Rattle.binding.proofs.bound_offers.Given as goal
+
+abbrev pub invariant-loop-r : goal.invariant-loop-r
+invariant-loop-r l = Offers l.image l.i l.r l.uses l.defs × (bound_offers (offers_at (tables_of l.image) l.r) ≡ bound_offers (offers_at (tables_of l.image) l.first))
+
+abbrev pub decreases-loop-r : goal.decreases-loop-r
+decreases-loop-r l = (l.r + 1) % 65536

@@ -1,0 +1,12 @@
+
+use borrow.Author.Rules.{rules}
+use native.Mathlib.Omega.{arith}
+use Rattle.image.proofs.Laid.{state-inside, state-read}
+use mathlib.Core.{Path.sym, Path.◌∙◌}
+use Rattle.image.proofs.state_row.Goals as goal
+
+pub half-requires : goal.half-requires
+half-requires c = omega (arith, state-inside c.requires)
+
+pub returns : goal.returns
+returns c = c.half.ensures ∙ sym (state-read c.requires)

@@ -1,0 +1,17 @@
+-- `masks::parameters` meets its contract: the mask of the variables passed, halved as often. Assumes nothing.
+use mathlib.Core.Path.{◌∙◌, ◌≡◌}
+use Prim.Native.Nat.{◌≤◌}
+use native.Mathlib.Omega.{arith}
+use lib.ListN.{length, drop}
+use borrow.Author.Rules.{rules}
+use Rattle.model.specs.Image.{tables_of}
+use Rattle.model.specs.Binding.{parameters_of}
+use Rattle.image.proofs.Laid.{variables-count}
+use Rattle.masks.proofs.ParameterMask.{from-none, double-fits, one-fits, one_on}
+use Rattle.masks.proofs.parameters.Given as goal
+
+abbrev pub invariant-loop-v : goal.invariant-loop-v
+invariant-loop-v l = (l.v ≤ length (tables_of l.image).variables) × (l.m ≡ parameters_of (drop l.v (tables_of l.image).variables))
+
+abbrev pub decreases-loop-v : goal.decreases-loop-v
+decreases-loop-v l = l.v

@@ -1,0 +1,16 @@
+-- `rows::once::count_states` meets its contract. Assumes nothing.
+use borrow.Author.Rules.{rules}
+use Prim.Native.Nat.{◌-◌}
+use native.Mathlib.Omega.{arith}
+use lib.ListN.{take}
+use Rattle.model.specs.Image.{tables_of}
+use Rattle.rows.specs.Counts.{Counted}
+use Rattle.rows.proofs.Fields.{state-in}
+use Rattle.rows.proofs.Counting.{counted_none, states-turn, states-end}
+use Rattle.rows.proofs.once.count_states.Given as goal
+
+abbrev pub invariant-loop-q : goal.invariant-loop-q
+invariant-loop-q l = Counted l.initial.counts l.counts (take l.q (tables_of l.image).states)
+
+abbrev pub decreases-loop-q : goal.decreases-loop-q
+decreases-loop-q l = l.n - l.q

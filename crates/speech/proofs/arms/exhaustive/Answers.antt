@@ -1,0 +1,13 @@
+-- `exhaustive`: some arm catches all; or int; or value by value. Assumes nothing.
+use Rattle.speech.proofs.Exhausted.{exhausted-all, exhausted-int, exhausted-each}
+use borrow.Author.Rules.{rules}
+use Rattle.speech.proofs.arms.exhaustive.Goals as goal
+
+pub returns-then-c : goal.returns-then-c
+returns-then-c c = exhausted-all c.requires c.arms_catch-c.ensures c.if-c.true
+
+pub returns-then-t-eq-INT : goal.returns-then-t-eq-INT
+returns-then-t-eq-INT c = exhausted-int c.requires c.arms_catch-c.ensures c.if-c.false c.type_of-t.ensures c.if-t-eq-INT.true
+
+pub returns : goal.returns
+returns c = exhausted-each c.requires c.arms_catch-c.ensures c.if-c.false c.type_of-t.ensures c.if-t-eq-INT.false c.size.ensures c.all_in.ensures

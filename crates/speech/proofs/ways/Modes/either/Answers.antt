@@ -1,0 +1,7 @@
+-- `Modes::either`: mode by mode. Assumes nothing.
+use Rattle.speech.proofs.Bits.{pair}
+use borrow.Author.Rules.{rules}
+use Rattle.speech.proofs.ways.Modes.either.Goals as goal
+
+pub returns : goal.returns
+returns c = pair c.either.ensures c.either-2.ensures

@@ -1,0 +1,17 @@
+-- `typing::operand_type` meets its contract: the table's rule is one test at each of its entries.
+-- Assumes nothing.
+use mathlib.Core.{Path.refl, List.List, List.[], List.◌∷◌}
+use Prim.Native.Nat.{ℕ}
+use borrow.Author.Rules.{rules}
+use Rattle.model.specs.Image.{none, bool, int}
+use Rattle.model.specs.Rows.{codes, lookup, shape_of}
+use Rattle.typing.specs.Rules.{operand_of}
+use Rattle.typing.proofs.Table.{by_code}
+use Rattle.typing.proofs.operand_type.Goals as goal
+
+abbrev table : List ℕ
+table = bool ∷ bool ∷ bool ∷ int ∷ int ∷ int ∷ int ∷ int ∷ int ∷ none ∷ int ∷ int ∷ []
+
+pub returns : goal.returns
+unfolding operand_of shape_of lookup codes
+returns c = by_code operand_of table tt refl c.args.code c.requires

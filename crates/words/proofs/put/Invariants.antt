@@ -1,0 +1,17 @@
+-- `words::put` meets its contract. Assumes nothing.
+-- at the loop's head the slice has its length
+use borrow.Author.Rules.{rules}
+use mathlib.Core.{Path.◌≡◌, Path.ap, Path.◌∙◌}
+use Prim.Native.Nat.{◌≤◌, ◌-◌}
+use native.Mathlib.{Nat.le_refl, Omega.arith}
+use lib.{ListN.length, ListN.drop, Seq.paste, Seq.paste-zero, Seq.length-paste, Seq.take_all}
+use Rattle.model.specs.Bytes.{bytes_of}
+use Rattle.model.proofs.Bytes.{length-bytes_of}
+use Rattle.words.proofs.Written.{first_byte, byte_step}
+use Rattle.words.proofs.put.Given as goal
+
+abbrev pub invariant-loop-j : goal.invariant-loop-j
+invariant-loop-j l = (l.j ≤ l.k) × (l.s ≡ paste l.initial.s l.at (bytes_of l.k l.n) l.j) × (drop l.j (bytes_of l.k l.n) ≡ bytes_of (l.k - l.j) l.left)
+
+abbrev pub decreases-loop-j : goal.decreases-loop-j
+decreases-loop-j l = l.k - l.j
