@@ -1,0 +1,48 @@
+-- The walk's functions meet their contracts: each way of the code is a law of Steps or Listing. A row's number falls with every call;
+-- a list counts as its first row and one more, none as nothing. Assumes nothing.
+use mathlib.Core.Logic.{⊎_elim}
+use mathlib.Core.Path.{sym, ◌∙◌}
+use Prim.Native.Nat.{ℕ, ◌+◌, ◌*◌, ◌%◌, ◌<◌}
+use native.Mathlib.Omega.{arith}
+use borrow.Author.Rules.{rules}
+use Rattle.model.specs.Rows.{action, branch, arm}
+use Rattle.sets.proofs.Rows.{row-of-kind}
+use Rattle.sets.proofs.Steps.{do-plain, do-fine, Walking, walking-all, first-ready, first-low, second-low, walking_on, walking-last, loop-masks, body-ready, body-low, do-loop, as-jump, as-loop, as_plain, branches-ready, branches-low, do-select, arms-ready, arms-low, case-masks, do-case}
+use Rattle.sets.proofs.Listing.{Listing, branching, here-kind, branches-all, branch-ready, branch-low, branch_less, branches-on, branches-last, arming, arms-all, arm-masks, arm-ready, arm_low, arm-less, arms-on, arms_last}
+use Rattle.sets.proofs.flow.+walk_walk_arms_walk_branches_walk_first_walk_loop_walk_single.Given as goal
+
+abbrev pub decreases-walk_single : goal.decreases-walk_single
+decreases-walk_single l = 4 * l.row + 1
+
+abbrev pub decreases-walk_loop : goal.decreases-walk_loop
+decreases-walk_loop l = 4 * l.row
+
+abbrev pub decreases-walk_first : goal.decreases-walk_first
+decreases-walk_first l = 4 * l.row + 3
+
+abbrev pub decreases-walk_branches : goal.decreases-walk_branches
+decreases-walk_branches l = 4 * ((l.row + 1) % 65536)
+
+abbrev pub decreases-walk_arms : goal.decreases-walk_arms
+decreases-walk_arms l = 4 * ((l.row + 1) % 65536)
+
+abbrev pub decreases-walk : goal.decreases-walk
+decreases-walk l = 4 * l.row + 2
+
+abbrev pub invariant-walk-loop-w : goal.invariant-walk-loop-w
+invariant-walk-loop-w l = Walking l.image.now l.i l.uses.now l.defs.now l.row l.entering l.top l.initial.out l.out l.initial.moved l.moved l.initial.fine l.fine l.here l.set
+
+abbrev pub decreases-walk-loop-w : goal.decreases-walk-loop-w
+decreases-walk-loop-w l = l.here
+
+abbrev pub invariant-walk_arms-loop-here : goal.invariant-walk_arms-loop-here
+invariant-walk_arms-loop-here l = Listing arm (arming l.image.now l.top l.entering) l.image.now l.i l.uses.now l.defs.now l.row l.top l.initial.out l.out l.initial.moved l.moved l.initial.fine l.fine l.here l.ends
+
+abbrev pub decreases-walk_arms-loop-here : goal.decreases-walk_arms-loop-here
+decreases-walk_arms-loop-here l = (l.here + 1) % 65536
+
+abbrev pub invariant-walk_branches-loop-here : goal.invariant-walk_branches-loop-here
+invariant-walk_branches-loop-here l = Listing branch (branching l.image.now l.top l.entering) l.image.now l.i l.uses.now l.defs.now l.row l.top l.initial.out l.out l.initial.moved l.moved l.initial.fine l.fine l.here l.ends
+
+abbrev pub decreases-walk_branches-loop-here : goal.decreases-walk_branches-loop-here
+decreases-walk_branches-loop-here l = (l.here + 1) % 65536
