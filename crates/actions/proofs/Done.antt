@@ -20,6 +20,7 @@ use Rattle.model.proofs.Decode.{action_at-is}
 use Rattle.model.proofs.Run.{tested-holds, tested-fails, tested-unsure}
 use native.Mathlib.Omega.{arith}
 use types.Run.{OneOf}
+use borrow.Enum.Refused.{Among, opened}
 use denote.Enum.Declared.{tag_of}
 use Rattle.model.specs.contracts.Outcome.{the_type}
 use Rattle.image.proofs.Laid.{half_is}
@@ -199,5 +200,5 @@ module _ {s : List ℕ} {i : Image} {r : ℕ} {w : Fields} {m n : List ℤ} (h :
       go (Stops y) e values = rw e
 
 -- an outcome other than the first
-pub other-out : {o : Outcome} → OneOf (1 ∷ 2 ∷ []) (tag_of the_type o) → o ≡ Ends → ⊥
-other-out {o} k e = ⊎_elim (λ q. omega arith) (λ q. omega arith) (subst (λ (p : Outcome). OneOf (1 ∷ 2 ∷ []) (tag_of the_type p)) e k)
+pub other-out : {o : Outcome} → Among (1 ∷ 2 ∷ []) (tag_of the_type o) → o ≡ Ends → ⊥
+other-out {o} k e = ⊎_elim (λ q. omega arith) (λ q. omega arith) (subst (λ (p : Outcome). OneOf (1 ∷ 2 ∷ []) (tag_of the_type p)) e (opened k))

@@ -1,0 +1,22 @@
+
+use borrow.Author.Rules.{rules}
+use mathlib.Core.{Path.◌≡◌, Path.refl, Path.◌∙◌, List.List}
+use Prim.Native.Nat.{ℕ, ◌+◌, ◌%◌}
+use native.Mathlib.Omega.{arith}
+use lib.{IntN.ℤ, ListN.length, ListN.length-set}
+use Rattle.model.specs.Image.{tables_of}
+use Rattle.model.specs.Rows.{of_type}
+use Rattle.model.specs.Decode.{of_types_at}
+use Rattle.expressions.proofs.Ways.{row_from}
+use Rattle.actions.specs.Items.{Items}
+use Rattle.actions.specs.State.{run_at, state_of}
+use Rattle.actions.specs.Words.{drawing}
+use Rattle.actions.proofs.Listed.{here-row}
+use Rattle.actions.proofs.Drawing.{word-inside, draw-none, drawn-inside, drawn-type, drawn-local, draw-next, draw-ended, draw-out, draw-read}
+use Rattle.actions.proofs.draw.Given as goal
+
+abbrev pub invariant-loop-r : goal.invariant-loop-r
+invariant-loop-r l = (length l.store ≡ length l.initial.store) × Items of_type l.image l.i.rows l.r l.initial.store × ((values : List ℤ) → drawing (tables_of l.image) (of_types_at (tables_of l.image) l.r) l.script l.place (state_of (run_at l.run l.words) l.store values) ≡ drawing (tables_of l.image) (of_types_at (tables_of l.image) l.first) l.script l.place (state_of l.run l.initial.store values))
+
+abbrev pub decreases-loop-r : goal.decreases-loop-r
+decreases-loop-r l = (l.r + 1) % 65536

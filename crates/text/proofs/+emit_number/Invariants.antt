@@ -1,0 +1,8 @@
+
+use borrow.Author.Rules.{rules}
+use Rattle.text.proofs.Pages.{emit-digit, emit-tenth}
+use Prim.Native.Nat.{ℕ, ◌<◌}
+use Rattle.text.proofs.+emit_number.Given as goal
+
+abbrev pub decreases-emit_number : goal.decreases-emit_number
+decreases-emit_number l = l.n

@@ -1,0 +1,13 @@
+-- at the loop's head the slice has its length
+use borrow.Author.Rules.{rules}
+use mathlib.Core.{Path.◌≡◌, Path.ap, Path.◌∙◌}
+use Prim.Native.Nat.{◌≤◌, ◌-◌}
+use native.Mathlib.{Omega.arith, Numerals.add-one}
+use lib.{ListN.length, Seq.paste, Seq.paste-zero, Seq.paste-suc, Seq.length-paste, Seq.take-length}
+use Rattle.text.proofs.put_bytes.Given as goal
+
+abbrev pub invariant-loop-j : goal.invariant-loop-j
+invariant-loop-j l = (l.j ≤ length l.bytes) × (l.text ≡ paste l.initial.text l.at l.bytes l.j)
+
+abbrev pub decreases-loop-j : goal.decreases-loop-j
+decreases-loop-j l = length l.bytes - l.j
