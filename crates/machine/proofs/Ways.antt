@@ -6,6 +6,7 @@ use native.Mathlib.Omega.{arith}
 use lib.{IntN.ℤ, IntN.pos, IntN.negsuc, ListN.length, Signed.mag, Signed.lt_z}
 use borrow.Author.Tests.{ltb-true}
 use types.Run.{OneOf}
+use borrow.Enum.Refused.{Among, opened}
 use denote.Enum.Declared.{tag_of}
 use Rattle.model.specs.contracts.Outcome.{the_type}
 use Rattle.model.specs.declared.{Fields.Fields, Gate.Gate, Refusal.TheVariants.Blocked, Refusal.TheVariants.BlockedSpoken, Refusal.TheVariants.BudgetSpent, Refusal.TheVariants.ScriptEnded, Refusal.TheVariants.WordOutOfRange, Outcome.Outcome, Outcome.TheVariants.Ends, Outcome.TheVariants.Stops}
@@ -61,8 +62,8 @@ pub heard-left : {p : Run} (run : Run) → p ≡ record { words = run.words + 1;
 heard-left run e = ap (λ (u : Run). u.left) e
 
 -- how a run went that didn't end
-pub not-ends : (o : Outcome) → OneOf (1 ∷ 2 ∷ []) (tag_of the_type o) → o ≡ Ends → ⊥
-not-ends o k e = go (tag_of the_type o) (ap (tag_of the_type) e) k
+pub not-ends : (o : Outcome) → Among (1 ∷ 2 ∷ []) (tag_of the_type o) → o ≡ Ends → ⊥
+not-ends o k e = go (tag_of the_type o) (ap (tag_of the_type) e) (opened k)
   where
     go : (n : ℕ) → n ≡ 0 → OneOf (1 ∷ 2 ∷ []) n → ⊥
     go n z (inl u) = omega arith

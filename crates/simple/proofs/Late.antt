@@ -82,8 +82,8 @@ module _ (x : Tables) where
     late-branch : (bs : Branches) (z : ℤ) (script : List ℕ) (r : ℕ) (s : St) → Shown Late (exec_branch x bs z script r s)
     late-branch no_branch z script r s = stop (omega arith)
     late-branch (branch a bs) z script r s =
-        elim z [
-          | pos n ↦ elim n [ zero ↦ late a script s | suc k ↦ late-branch bs (pos k) script r s ]
+        elim z as (λ k. Shown Late (exec_branch x (branch a bs) k script r s)) [
+          | pos n ↦ elim n as (λ k. Shown Late (exec_branch x (branch a bs) (pos k) script r s)) [ zero ↦ late a script s | suc k ↦ late-branch bs (pos k) script r s ]
           | negsuc n ↦ stop (omega arith)
         ]
 

@@ -1,0 +1,74 @@
+-- The run of an action and of what it holds meets its contracts: units and rows fall. Assumes nothing.
+-- An action's row, and two actions in turn: the needs of the cycle's proof. Assumes nothing.
+-- Select and case: the needs of the cycle's proof. Assumes nothing.
+-- What the functions of the cycle promise each other, by units and rows that fall. Assumes nothing.
+-- While and for: the needs of the cycle's proof. Assumes nothing.
+use Prim.Native.Nat.{◌+◌, ℕ, ◌/◌, ◌%◌, ◌*◌, ◌<◌}
+use mathlib.Core.Path.{refl, sym, ◌∙◌, ◌≡◌, ap}
+use native.Mathlib.Omega.{arith}
+use borrow.Author.Rules.{rules}
+use Rattle.told.specs.Told.{run_of, ran_of}
+use Rattle.told.proofs.Coded.{ends_at, out-over, told-by, out-ends, told-ends}
+use Rattle.machine.proofs.Parts.{row_of, moved, both-parts, select-parts, case-parts, while-parts, for-parts, simple-parts, runs, same_store, first-row}
+use Rattle.machine.proofs.Ways.{spent-way, simple-way, both-way, select-way, case-way, while-way, for-way, left-of, ends-typed, both_ends, both-stops, paid-left, branch-action, heard-left, branch-over, branch-rest, branch-first, branch-next, select-none, select-ended, select-negative, select-branch}
+use Rattle.machine.proofs.Helpers.{told-as, paid, set-length, heard, run-same, from-same, null-told}
+use borrow.Author.Tests.{leb-true, leb-false}
+use lib.IntN.{pos}
+use lib.ListN.{length, length-set}
+use Rattle.values.proofs.Held.{held-is}
+use Rattle.model.specs.Image.{tables_of}
+use Rattle.model.specs.Bytes.{word_at}
+use Rattle.model.specs.Rows.{branch}
+use Rattle.model.specs.Decode.{action_at, list_at, branches_of}
+use Rattle.model.specs.Run.{exec_branch}
+use Rattle.actions.specs.State.{state_of}
+use Rattle.machine.specs.Running.{RunningList}
+use Rattle.machine.proofs.Arms.{case-arms, case-is, case-unknown, arm-finds, arm-action, arm-found, arm-none, arm-unsure}
+use Rattle.machine.proofs.Loops.{Whiles, while-first, while-test, while-ends, while-unsure, while-stops, while-less, while-more, Fors, for-range, for-slot, for-first, for-is, for-ends, for-unsure, slot_of, for-stops, for-less, for-more}
+use Rattle.machine.proofs.+run_action_run_arms_run_body_run_both_run_branches_run_case_run_for_run_select_run_while.Given as goal
+
+abbrev pub decreases-run_while : goal.decreases-run_while
+decreases-run_while l = (run_of l.run.now).left * 4 + 2
+
+abbrev pub decreases-run_select : goal.decreases-run_select
+decreases-run_select l = (run_of l.run.now).left * 4 + 3
+
+abbrev pub decreases-run_for : goal.decreases-run_for
+decreases-run_for l = (run_of l.run.now).left * 4 + 2
+
+abbrev pub decreases-run_case : goal.decreases-run_case
+decreases-run_case l = (run_of l.run.now).left * 4 + 3
+
+abbrev pub decreases-run_branches : goal.decreases-run_branches
+decreases-run_branches l = (run_of l.run.now).left * 4 + 2
+
+abbrev pub decreases-run_both : goal.decreases-run_both
+decreases-run_both l = (run_of l.run.now).left * 4 + 2
+
+abbrev pub decreases-run_body : goal.decreases-run_body
+decreases-run_body l = (run_of l.run.now).left * 4 + 1
+
+abbrev pub decreases-run_arms : goal.decreases-run_arms
+decreases-run_arms l = (run_of l.run.now).left * 4 + 2
+
+abbrev pub decreases-run_action : goal.decreases-run_action
+decreases-run_action l = (run_of l.run.now).left * 4
+
+abbrev pub invariant-run_branches-loop-here : goal.invariant-run_branches-loop-here
+invariant-run_branches-loop-here l = (l.store.now ≡ l.initial.store.now) × (l.values ≡ l.initial.values) × (l.run ≡ l.initial.run) × RunningList branch l.image.now l.rows l.here l.initial.store.now l.initial.values
+    × (exec_branch (tables_of l.image.now) (branches_of (tables_of l.image.now) (action_at (tables_of l.image.now)) (list_at (tables_of l.image.now) l.here)) (pos l.ahead) l.script.now l.r (state_of (run_of l.initial.run) l.initial.store.now l.initial.values) ≡ exec_branch (tables_of l.image.now) (branches_of (tables_of l.image.now) (action_at (tables_of l.image.now)) (list_at (tables_of l.image.now) l.first)) (pos l.k) l.script.now l.r (state_of (run_of l.initial.run) l.initial.store.now l.initial.values))
+
+abbrev pub decreases-run_branches-loop-here : goal.decreases-run_branches-loop-here
+decreases-run_branches-loop-here l = (l.here + 1) % 65536
+
+abbrev pub invariant-run_while-loop-store : goal.invariant-run_while-loop-store
+invariant-run_while-loop-store l = Whiles l.image.now l.rows l.r l.e l.a l.script.now l.initial.store.now l.initial.values (run_of l.initial.run) l.store.now l.values (run_of l.run) × (length l.run ≡ length l.initial.run)
+
+abbrev pub decreases-run_while-loop-store : goal.decreases-run_while-loop-store
+decreases-run_while-loop-store l = (run_of l.run).left
+
+abbrev pub invariant-run_for-loop-store : goal.invariant-run_for-loop-store
+invariant-run_for-loop-store l = Fors l.image.now l.rows l.r l.g l.a l.script.now l.initial.store.now l.initial.values (run_of l.initial.run) l.store.now l.values (run_of l.run) × (length l.run ≡ length l.initial.run)
+
+abbrev pub decreases-run_for-loop-store : goal.decreases-run_for-loop-store
+decreases-run_for-loop-store l = (run_of l.run).left

@@ -1,0 +1,16 @@
+
+use mathlib.Core.Path.{refl}
+use Rattle.machine.proofs.Helpers.{most-unsure, most-holds, most-fails, held-most}
+use borrow.Author.Rules.{rules}
+use Rattle.machine.proofs.at_most.Goals as goal
+
+pub returns-then-z-high : goal.returns-then-z-high
+returns-then-z-high c =
+    (most-holds _ _ c.value.ensures c.in-Is.is (held-most c.in-Is.z c.args.high c.in-Is.known_told-1-own.given.0.1 c.ranges.high.sfits c.if-z-high.true), refl)
+
+pub returns-else-z-high : goal.returns-else-z-high
+returns-else-z-high c =
+    (most-fails _ _ c.value.ensures c.in-Is.is (held-most c.in-Is.z c.args.high c.in-Is.known_told-1-own.given.0.1 c.ranges.high.sfits c.if-z-high.false), refl)
+
+pub returns-in-Unknown : goal.returns-in-Unknown
+returns-in-Unknown c = (most-unsure _ _ c.value.ensures c.in-Unknown.is, refl)
