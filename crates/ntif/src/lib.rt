@@ -80,8 +80,7 @@ fn check_bytes_on(image: &[u8], sets: &mut [u8], masks: &mut [u64]) -> u64
 }
 
 // check, for C: the sets are little-endian words of 8 bytes.
-#[unsafe(no_mangle)]
-pub extern "C" fn ntif_check(image: &[u8], sets: &mut [u8]) -> u64
+pub fn ntif_check(image: &[u8], sets: &mut [u8]) -> u64
     ensures { record { answer = result; lent = sets.new } ≡ check_bytes image.now sets.old }
 {
     let mut masks = [0u64; Image::STATES as usize];
@@ -129,8 +128,7 @@ fn start_bytes_on(
 }
 
 // start, for C: parameters and store are little-endian words of 4 bytes.
-#[unsafe(no_mangle)]
-pub extern "C" fn ntif_start(image: &[u8], params: &[u8], store: &mut [u8]) -> u64
+pub fn ntif_start(image: &[u8], params: &[u8], store: &mut [u8]) -> u64
     ensures { record { answer = result; lent = store.new } ≡ start_bytes image.now params.now store.old }
 {
     let mut given = [0i32; WORDS];
@@ -203,8 +201,7 @@ fn step_bytes_on(
 }
 
 // step, for C: store, script and label are little-endian words of 4 bytes.
-#[unsafe(no_mangle)]
-pub extern "C" fn ntif_step(
+pub fn ntif_step(
     image: &[u8],
     q: u32,
     store: &mut [u8],

@@ -62,13 +62,13 @@ module _ {s : List ℕ} {i : Image} {m : List ℤ} (h : Slotted s i m) where
   pub none_yet : lowest (slot_fits (tables_of s) m) 0 ≡ 0
   none_yet = lowest-full (slot_fits (tables_of s) m) 0 (λ k l. absurd (omega arith))
 
-  pub one_more : (v : ℕ) {b : Bool} → lowest (slot_fits (tables_of s) m) v ≡ v → b ≡ slot_fits (tables_of s) m v → not b ≡ false → lowest (slot_fits (tables_of s) m) (v + 1) ≡ v + 1
-  one_more v {b} e f t = lowest-pass (slot_fits (tables_of s) m) v e (sym f ∙ not-false b t)
+  pub one_more : (v : ℕ) {b : Bool} → lowest (slot_fits (tables_of s) m) v ≡ v → b ≡ slot_fits (tables_of s) m v → b ≡ true → lowest (slot_fits (tables_of s) m) (v + 1) ≡ v + 1
+  one_more v {b} e f t = lowest-pass (slot_fits (tables_of s) m) v e (sym f ∙ t)
 
-  pub wrong-here : (v : ℕ) {b : Bool} → v < length (tables_of s).variables → lowest (slot_fits (tables_of s) m) v ≡ v → b ≡ slot_fits (tables_of s) m v → not b ≡ true
+  pub wrong-here : (v : ℕ) {b : Bool} → v < length (tables_of s).variables → lowest (slot_fits (tables_of s) m) v ≡ v → b ≡ slot_fits (tables_of s) m v → b ≡ false
       → Refused (SlotValue (variable v)) ≡ slots_verdict (tables_of s) m
   wrong-here v {b} l e f t =
-      sym (each-refuses (slot_fits (tables_of s) m) (length (tables_of s).variables) _ v e l (sym f ∙ not-true b t))
+      sym (each-refuses (slot_fits (tables_of s) m) (length (tables_of s).variables) _ v e l (sym f ∙ t))
 
   pub all_fit : (v : ℕ) → v ≡ length (tables_of s).variables → lowest (slot_fits (tables_of s) m) v ≡ v → Accepted ≡ slots_verdict (tables_of s) m
   all_fit v n e = sym (each-full (slot_fits (tables_of s) m) (length (tables_of s).variables) _ (rw (← n) e))

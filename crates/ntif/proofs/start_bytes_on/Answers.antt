@@ -1,0 +1,16 @@
+-- `ntif::start_bytes_on` meets its contract. Assumes nothing.
+use borrow.Author.Rules.{rules}
+use Rattle.ntif.proofs.Starting.{read_of, start-bytes-refused, start-bytes-accepted}
+use mathlib.Core.Path.{refl}
+use native.Mathlib.Omega.{arith}
+use Rattle.ntif.proofs.start_bytes_on.Goals as goal
+
+pub returns-in-Refused : goal.returns-in-Refused
+returns-in-Refused c =
+    let r = read_of _ c.args.store.now c.args.given.now refl c.get_words.auto.words c.requires.0 c.requires.1 c.get_words.ensures in
+    start-bytes-refused _ _ _ (λ j. omega (arith, c.slice_known-1.given j)) r c.start-v.ensures c.pack_verdict.ensures _ c.in-Refused.is
+
+pub returns-in-Accepted : goal.returns-in-Accepted
+returns-in-Accepted c =
+    let r = read_of _ c.args.store.now c.args.given.now refl c.get_words.auto.words c.requires.0 c.requires.1 c.get_words.ensures in
+    start-bytes-accepted _ _ _ (λ j. omega (arith, c.slice_known-1.given j)) r c.start-v.ensures c.pack_verdict-in-Accepted.ensures _ c.in-Accepted.is refl c.put_words.ensures

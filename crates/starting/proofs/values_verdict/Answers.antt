@@ -1,0 +1,16 @@
+-- `starting::values_verdict` meets its contract. Assumes nothing.
+use borrow.Author.Rules.{rules}
+use Rattle.starting.proofs.Judging.{typed-of, values-stays, values-condition}
+use Rattle.starting.proofs.values_verdict.Goals as goal
+
+pub parameter_verdict-v-requires : goal.parameter_verdict-v-requires
+parameter_verdict-v-requires c = c.requires.slotted
+
+pub condition-requires : goal.condition-requires
+condition-requires c = typed-of c.requires c.parameter_verdict-v.ensures c.in-Accepted.is
+
+pub returns-in-Refused : goal.returns-in-Refused
+returns-in-Refused c = values-stays _ _ c.parameter_verdict-v.ensures _ c.in-Refused.is
+
+pub returns-in-Accepted : goal.returns-in-Accepted
+returns-in-Accepted c = values-condition _ _ c.parameter_verdict-v.ensures c.in-Accepted.is c.condition.ensures

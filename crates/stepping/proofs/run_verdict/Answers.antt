@@ -1,0 +1,43 @@
+
+use borrow.Author.Rules.{rules}
+use mathlib.Core.Path.{sym, ◌∙◌}
+use native.Mathlib.Omega.{arith}
+use Rattle.stages.proofs.Cleared.{located}
+use Rattle.stepping.proofs.Slots.{no-state, store-wrong, slotted, slot-wrong, label-short, budget-over, nothing-wrong}
+use Rattle.stepping.proofs.run_verdict.Goals as goal
+
+pub state_count-requires : goal.state_count-requires
+state_count-requires c =
+    located c.requires
+
+pub returns-then-state_count-q : goal.returns-then-state_count-q
+returns-then-state_count-q c =
+    no-state c.requires c.args.q c.args.store.now c.args.budget c.args.label.now (omega (arith, c.if-state_count-q.true))
+
+pub variable_count-requires : goal.variable_count-requires
+variable_count-requires c =
+    located c.requires
+
+pub returns-then-store-variable_count : goal.returns-then-store-variable_count
+returns-then-store-variable_count c =
+    store-wrong c.requires c.args.q c.args.store.now c.args.budget c.args.label.now (omega (arith, c.if-state_count-q.false)) (λ e. c.if-store-variable_count.true (e ∙ sym c.variable_count.ensures))
+
+pub slots_verdict-v-requires : goal.slots_verdict-v-requires
+slots_verdict-v-requires c =
+    slotted c.requires c.args.q _ 0 c.args.label.now (omega (arith, c.if-state_count-q.false)) (c.if-store-variable_count.false ∙ c.variable_count.ensures)
+
+pub returns-then-label : goal.returns-then-label
+returns-then-label c =
+    label-short c.requires c.args.q c.args.store.now c.args.budget c.args.label.now (omega (arith, c.if-state_count-q.false)) (c.if-store-variable_count.false ∙ c.variable_count.ensures) c.slots_verdict-v.ensures c.in-Accepted.is c.if-label.true
+
+pub returns-then-budget-gt-BUDGET : goal.returns-then-budget-gt-BUDGET
+returns-then-budget-gt-BUDGET c =
+    budget-over c.requires c.args.q c.args.store.now c.args.budget c.args.label.now (omega (arith, c.if-state_count-q.false)) (c.if-store-variable_count.false ∙ c.variable_count.ensures) c.slots_verdict-v.ensures c.in-Accepted.is (omega (arith, c.if-label.false)) c.if-budget-gt-BUDGET.true
+
+pub returns-in-Refused : goal.returns-in-Refused
+returns-in-Refused c =
+    slot-wrong c.requires c.args.q c.args.store.now c.args.budget c.args.label.now (omega (arith, c.if-state_count-q.false)) (c.if-store-variable_count.false ∙ c.variable_count.ensures) _ c.slots_verdict-v.ensures c.in-Refused.is
+
+pub returns-else-budget-gt-BUDGET : goal.returns-else-budget-gt-BUDGET
+returns-else-budget-gt-BUDGET c =
+    nothing-wrong c.requires c.args.q c.args.store.now c.args.budget c.args.label.now (omega (arith, c.if-state_count-q.false)) (c.if-store-variable_count.false ∙ c.variable_count.ensures) c.slots_verdict-v.ensures c.in-Accepted.is (omega (arith, c.if-label.false)) (omega (arith, c.if-budget-gt-BUDGET.false))
