@@ -1,0 +1,16 @@
+
+use borrow.Author.Rules.{rules}
+use mathlib.Core.{Path.◌≡◌, Path.refl, List.List, List.[], List.◌∷◌}
+use Prim.Native.Nat.{ℕ, ◌-◌, ◌≤◌}
+use native.Mathlib.Omega.{arith}
+use lib.ListN.{length}
+use Rattle.text.specs.Emit.{page, Emitted}
+use Rattle.notation.specs.Texts.{each, blanks}
+use Rattle.notation.proofs.Steps.{each_next, each_none}
+use Rattle.notation.proofs.marks.put_blanks.Given as goal
+
+abbrev pub invariant-loop-k : goal.invariant-loop-k
+invariant-loop-k l = (l.k ≤ l.n) × (length l.text ≡ length l.initial.text) × Emitted (each (λ i. 32 ∷ []) l.k) (page l.at l.initial.text) (page l.end l.text)
+
+abbrev pub decreases-loop-k : goal.decreases-loop-k
+decreases-loop-k l = l.n - l.k

@@ -1,0 +1,14 @@
+
+use borrow.Author.Rules.{rules}
+use borrow.Author.Tests.{ne_eqb, eq-eqb}
+use Rattle.notation.specs.Texts.{margin}
+use Rattle.text.proofs.Pages.{emit-none}
+use Rattle.notation.proofs.marks.put_margin.Goals as goal
+
+pub returns-then-row-place : goal.returns-then-row-place
+unfolding margin
+returns-then-row-place c = rw (margin, eq-eqb c.args.row c.args.place c.if-row-place.true) c.emit.ensures
+
+pub returns : goal.returns
+unfolding margin
+returns c = rw (margin, ne_eqb c.args.row c.args.place c.if-row-place.false) c.emit-2.ensures

@@ -1,0 +1,17 @@
+
+use borrow.Author.Rules.{rules}
+use mathlib.Core.Path.{◌≡◌, refl}
+use Prim.Native.Nat.{◌-◌, ◌≤◌}
+use native.Mathlib.Omega.{arith}
+use lib.ListN.{length}
+use Rattle.text.specs.Emit.{page, Emitted}
+use Rattle.notation.specs.Texts.{each}
+use Rattle.notation.specs.Whole.{member_text}
+use Rattle.notation.proofs.Steps.{each_next, each_none}
+use Rattle.notation.proofs.whole.put_members.Given as goal
+
+abbrev pub invariant-loop-v : goal.invariant-loop-v
+invariant-loop-v l = (l.v ≤ l.n) × (length l.text ≡ length l.initial.text) × Emitted (each (member_text l.mask) l.v) (page l.at l.initial.text) (page l.end l.text)
+
+abbrev pub decreases-loop-v : goal.decreases-loop-v
+decreases-loop-v l = l.n - l.v
