@@ -1,12 +1,14 @@
 #!/usr/bin/env python3
 """Turns the repository's own definitions and lemmas to snake case, as today's Rattle spells them.
 
-usage: tools/respell.py          at the top: rewrites crates/*/{src,specs,proofs,must-fail}
-       tools/respell.py --list   prints old and new names, and writes nothing
+usage: tools/respell.py            at the top, after port.py: rewrites crates/*/{src,specs,proofs,must-fail}
+       tools/respell.py --list     prints old and new names, and writes nothing
+       tools/respell.py --dashes   does only the second part of it
 
-A dash still joins the names in a lemma's name, a fact in it keeps its capital, and a name from the code, a string and a
-type keep their spelling. What is renamed is found in specs/ and proofs/ alone; the same words then follow in clauses and
-comments of src/ and in the edits.
+First, humps go: tablesOf becomes tables_of. Second, what specs/ declares with a dash has an underscore: d-choose becomes
+d_choose. A dash still joins the names in a lemma's name, a fact in it keeps its capital, and a name from the code, a
+string and a type keep their spelling. What is renamed is found in specs/ and proofs/ alone; the same words then follow in
+clauses and comments of src/ and in the edits.
 """
 
 import os
@@ -69,23 +71,43 @@ def renamed(root):
     return names
 
 
-def main():
-    root = os.path.dirname(os.path.dirname(os.path.abspath(__file__)))
-    names = renamed(root)
-    if "--list" in sys.argv:
-        for old, new in sorted(names.items()):
-            print(old, new)
-        return
+DECLARED = re.compile(r"\s*(?:\|\s*)?(?:(?:unfoldable|abbrev|mutual|pub|data|record) )*([^\s(){}:=]+)\s*(?:\{[^}]*\}\s*|\([^)]*\)\s*)*:(?!:)")
+
+
+def dashed(root):
+    """What specs/ declares with a dash: definitions, constructors, fields."""
+    found = set()
+    for path in files(root, ("specs",), ".antt"):
+        for line in read(path).split("\n"):
+            m = DECLARED.match(line)
+            # A constant's word keeps its dash: with an underscore it would fall together with the constant of src/.
+            if m and "-" in m.group(1) and not m.group(1).isupper() and not line.lstrip().startswith("--") and not line.startswith("use "):
+                found.add(m.group(1))
+    return {w: w.replace("-", "_") for w in found}
+
+
+def rewrite(root, names, lemmas):
     for folders, ending in ((("specs", "proofs"), ".antt"), (("src",), ".rt"), (("must-fail",), ".edit")):
         for path in files(root, folders, ending):
             text = before = read(path)
-            if ending == ".antt":
+            if lemmas and ending == ".antt":
                 text = re.sub(r"(?<![\w'.-])(" + "|".join(LEMMAS) + r")(?![\w'-])", lambda m: LEMMAS[m.group()], text)
             # An edit's text is one line of code each, so a quote in it is a string of the code too.
             new = PART.sub(lambda m: m.group() if m.group().startswith('"') else names.get(m.group(), m.group()), text)
             if new != before:
                 with open(path, "w", encoding="utf-8") as f:
                     f.write(new)
+
+
+def main():
+    root = os.path.dirname(os.path.dirname(os.path.abspath(__file__)))
+    if "--list" in sys.argv:
+        for old, new in sorted((renamed(root) | dashed(root)).items()):
+            print(old, new)
+        return
+    if "--dashes" not in sys.argv:
+        rewrite(root, renamed(root), True)
+    rewrite(root, dashed(root), False)
 
 
 main()
