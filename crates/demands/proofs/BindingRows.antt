@@ -14,7 +14,7 @@ use Rattle.model.specs.Binding.{use_of_exp, bound_act, parameters_of, bound}
 use Rattle.model.proofs.Rows.{both_true, Named, Formed, row_is, is-kind}
 use Rattle.model.proofs.Decode.{action_at-is}
 use Rattle.demands.specs.Common.{Iff, Every, none_left, one_more}
-use Rattle.demands.specs.Judgements.{WellBound, b_at, BoundAct, b-null, b-to, b-reset, b-assign, b-choose, b-communicate, b_then, b-select, b-case, b-while, b-for, BoundBranches, b-no_branch, b-branch, BoundArms, b-no_arm, b-arm, ReadsParameters, BoundAs, RowBound}
+use Rattle.demands.specs.Judgements.{WellBound, b_at, BoundAct, b_null, b_to, b_reset, b_assign, b_choose, b_communicate, b_then, b_select, b_case, b_while, b_for, BoundBranches, b_no_branch, b_branch, BoundArms, b_no_arm, b_arm, ReadsParameters, BoundAs, RowBound}
 use Rattle.demands.proofs.Everys.{and_both}
 use Rattle.demands.proofs.BindingTrees.{all-bound-pat, gets-rule, of_types-rule, variables-rule, offers-rule, for-rule, bound-passes, reads-rule}
 use Rattle.demands.proofs.TypingRows.{listed, lower, list-every}
@@ -28,30 +28,30 @@ module _ (x : Tables) (ok : Formed x) (r : ℕ) (low : (i : ℕ) → i < r → R
 
   branches-up : (l : List ℕ) → Every (Named x r branch) l → BoundBranches (branches_of x (action_at x) l)
   unfolding branches_of
-  branches-up [] none_left = b-no_branch
+  branches-up [] none_left = b_no_branch
   branches-up (i ∷ l) (one_more p q) =
-      b-branch (lower-act (lower p (row_is x ok i _ (is-kind x branch i p.kind)).a)) (branches-up l q)
+      b_branch (lower-act (lower p (row_is x ok i _ (is-kind x branch i p.kind)).a)) (branches-up l q)
 
   arms_up : (l : List ℕ) → Every (Named x r arm) l → BoundArms (arms_of x (action_at x) l)
   unfolding arms_of
-  arms_up [] none_left = b-no_arm
+  arms_up [] none_left = b_no_arm
   arms_up (i ∷ l) (one_more p q) =
-      b-arm (all-bound-pat _) (lower-act (lower p (row_is x ok i _ (is-kind x arm i p.kind)).b)) (arms_up l q)
+      b_arm (all-bound-pat _) (lower-act (lower p (row_is x ok i _ (is-kind x arm i p.kind)).b)) (arms_up l q)
 
   act-up : (m : ActionRow) → means_at x r ≡ an_action m → bound_act (grow_action x (action_at x) (fields_of x r) (an_action m)) ≡ true
       → BoundAct (grow_action x (action_at x) (fields_of x r) (an_action m))
   unfolding grow_action bound_act
-  act-up is_null e t = b-null
-  act-up is_assign e t = b-assign ((gets-rule _).back t)
-  act-up is_choose e t = b-choose ((of_types-rule _).back t)
-  act-up is_reset e t = b-reset ((variables-rule _).back t)
-  act-up is_communicate e t = let p = (offers-rule _).back t in b-communicate p.0 p.1
-  act-up is_to e t = b-to
+  act-up is_null e t = b_null
+  act-up is_assign e t = b_assign ((gets-rule _).back t)
+  act-up is_choose e t = b_choose ((of_types-rule _).back t)
+  act-up is_reset e t = b_reset ((variables-rule _).back t)
+  act-up is_communicate e t = let p = (offers-rule _).back t in b_communicate p.0 p.1
+  act-up is_to e t = b_to
   act-up is_then e t = let q = row_is x ok r _ e in b_then (lower-act q.a) (lower-act q.b)
-  act-up is_select e t = b-select (branches-up _ (list-every x ok _ r branch (listed (row_is x ok r _ e).a)))
-  act-up is_case e t = b-case (arms_up _ (list-every x ok _ r arm (listed (row_is x ok r _ e).b)))
-  act-up is_while e t = b-while (lower-act (row_is x ok r _ e).b)
-  act-up is_for e t = b-for ((for-rule _ _).back t) (lower-act (row_is x ok r _ e).b)
+  act-up is_select e t = b_select (branches-up _ (list-every x ok _ r branch (listed (row_is x ok r _ e).a)))
+  act-up is_case e t = b_case (arms_up _ (list-every x ok _ r arm (listed (row_is x ok r _ e).b)))
+  act-up is_while e t = b_while (lower-act (row_is x ok r _ e).b)
+  act-up is_for e t = b_for ((for-rule _ _).back t) (lower-act (row_is x ok r _ e).b)
 
   action-up : (m : ActionRow) → means_at x r ≡ an_action m → bound_act (act_of (action_at x r)) ≡ true → WellBound (action_at x r)
   action-up m e t =

@@ -14,8 +14,8 @@ use Rattle.model.specs.Trees.{Exp, var, const, unary, binary, Pat, any, bind, eq
 use Rattle.model.specs.Binding.{use_of_exp, def_of_pat, use_of_pat, use_of_offer, def_of_offer, def_of_offers, distinct, ordered, touches, touches_act, touches_branches, touches_arms, bound_act, parameters_of}
 use Rattle.model.proofs.Rows.{both_true}
 use Rattle.model.proofs.Masks.{digit-le, digit-meet, digit-join, digit-without, digit-zero, digit-bit-here, digit-bit-there, digit-ext, apart-digit, inside-sub, sub-inside}
-use Rattle.demands.specs.Common.{Iff, Every, none_left, one_more, Pairwise, no-pair, more-pairs, Some, s-here, s-later}
-use Rattle.demands.specs.Judgements.{UsedIn, u-var, u-unary, u-left, u-right, DefinedIn, d-bind, d-guarded, UsedInPat, u-guard, u-inner, UsedInOffer, u-emit, u-receive, DefinedInOffer, d-receive, Touched, h-at, TouchedAct, h-assign, h-choose, h-reset, h-communicate, h-first, h-second, h-select, h-case, h-while, h-range, h-for, TouchedBranches, h-branch, h-branches, TouchedArms, h-pattern, h-arm, h-arms, BoundPat, b-any, b-bind, b-equals, b-guarded, BoundOffer, b-emit, b-receive, InTurn, BoundAct, b-null, b-to, b-reset, b-assign, b-choose, b-communicate, b_then, b-select, b-case, b-while, b-for, ReadsParameters}
+use Rattle.demands.specs.Common.{Iff, Every, none_left, one_more, Pairwise, no_pair, more_pairs, Some, s_here, s_later}
+use Rattle.demands.specs.Judgements.{UsedIn, u_var, u_unary, u_left, u_right, DefinedIn, d_bind, d_guarded, UsedInPat, u_guard, u_inner, UsedInOffer, u_emit, u_receive, DefinedInOffer, d_receive, Touched, h_at, TouchedAct, h_assign, h_choose, h_reset, h_communicate, h_first, h_second, h_select, h_case, h_while, h_range, h_for, TouchedBranches, h_branch, h_branches, TouchedArms, h_pattern, h_arm, h_arms, BoundPat, b_any, b_bind, b_equals, b_guarded, BoundOffer, b_emit, b_receive, InTurn, BoundAct, b_null, b_to, b_reset, b_assign, b_choose, b_communicate, b_then, b_select, b_case, b_while, b_for, ReadsParameters}
 use Rattle.demands.proofs.Everys.{and_both}
 use Rattle.demands.proofs.Begun.{parameter-digit}
 
@@ -65,12 +65,12 @@ module _ {A : Type 0} (f : A → ℕ) where
   some-on : (P : A → Type 0) (n : ℕ) → ((a : A) → Has (f a) n → P a) → (l : List A) → Has (union (map f l)) n → Some P l
   unfolding union
   some-on P n g [] h = absurd (zero_has n h)
-  some-on P n g (a ∷ l) h = ⊎_elim (λ p. s-here (g a p)) (λ p. s-later (some-on P n g l p)) (join-has (f a) (union (map f l)) n h)
+  some-on P n g (a ∷ l) h = ⊎_elim (λ p. s_here (g a p)) (λ p. s_later (some-on P n g l p)) (join-has (f a) (union (map f l)) n h)
 
   some_back : {P : A → Type 0} {l : List A} (n : ℕ) → ((a : A) → P a → Has (f a) n) → Some P l → Has (union (map f l)) n
   unfolding union
-  some_back n g (s-here {a} {l} h) = left-has (f a) (union (map f l)) n (g a h)
-  some_back n g (s-later {a} {l} h) = right-has (f a) (union (map f l)) n (some_back n g h)
+  some_back n g (s_here {a} {l} h) = left-has (f a) (union (map f l)) n (g a h)
+  some_back n g (s_later {a} {l} h) = right-has (f a) (union (map f l)) n (some_back n g h)
 
   -- apart from a union is apart from each
   apart-every : (m : ℕ) (l : List A) → Disjoint m (union (map f l)) → Every (λ b. Disjoint m (f b)) l
@@ -86,28 +86,28 @@ module _ {A : Type 0} (f : A → ℕ) where
 
   pub distinct-on : (l : List A) → distinct (map f l) ≡ true → Pairwise (λ a b. Disjoint (f a) (f b)) l
   unfolding distinct
-  distinct-on [] e = no-pair
+  distinct-on [] e = no_pair
   distinct-on (a ∷ l) e =
       let p = both_true (apart (f a) (union (map f l))) (distinct (map f l)) e in
-      more-pairs (apart-every (f a) l (apart-on (f a) (union (map f l)) p.0)) (distinct-on l p.1)
+      more_pairs (apart-every (f a) l (apart-on (f a) (union (map f l)) p.0)) (distinct-on l p.1)
 
   pub distinct-back : {l : List A} → Pairwise (λ a b. Disjoint (f a) (f b)) l → distinct (map f l) ≡ true
   unfolding distinct
-  distinct-back no-pair = refl
-  distinct-back (more-pairs {a} {l} h hs) =
+  distinct-back no_pair = refl
+  distinct-back (more_pairs {a} {l} h hs) =
       and_both (apart (f a) (union (map f l))) (distinct (map f l)) (apart-back _ _ (every-apart (f a) h)) (distinct-back hs)
 
 ordered-on : (l : List Offer) → ordered l ≡ true → Pairwise (λ o p. Disjoint (use_of_offer o) (def_of_offer p)) l
 unfolding ordered
-ordered-on [] e = no-pair
+ordered-on [] e = no_pair
 ordered-on (o ∷ l) e =
     let p = both_true (apart (use_of_offer o) (def_of_offers l)) (ordered l) e in
-    more-pairs (apart-every def_of_offer (use_of_offer o) l (apart-on (use_of_offer o) (def_of_offers l) p.0)) (ordered-on l p.1)
+    more_pairs (apart-every def_of_offer (use_of_offer o) l (apart-on (use_of_offer o) (def_of_offers l) p.0)) (ordered-on l p.1)
 
 ordered-back : {l : List Offer} → Pairwise (λ o p. Disjoint (use_of_offer o) (def_of_offer p)) l → ordered l ≡ true
 unfolding ordered
-ordered-back no-pair = refl
-ordered-back (more-pairs {a = o} {l} h hs) =
+ordered-back no_pair = refl
+ordered-back (more_pairs {a = o} {l} h hs) =
     and_both (apart (use_of_offer o) (def_of_offers l)) (ordered l) (apart-back _ _ (every-apart def_of_offer (use_of_offer o) h)) (ordered-back hs)
 
 every-then : {A : Type 0} {P Q : A → Type 0} {l : List A} → ((a : A) → P a → Q a) → Every P l → Every Q l
@@ -119,12 +119,12 @@ every-zip f none_left none_left = none_left
 every-zip f (one_more {a} h hs) (one_more k ks) = one_more (f a h k) (every-zip f hs ks)
 
 pairwise-then : {A : Type 0} {R S : A → A → Type 0} {l : List A} → ((a b : A) → R a b → S a b) → Pairwise R l → Pairwise S l
-pairwise-then f no-pair = no-pair
-pairwise-then f (more-pairs {a} h hs) = more-pairs (every-then (f a) h) (pairwise-then f hs)
+pairwise-then f no_pair = no_pair
+pairwise-then f (more_pairs {a} h hs) = more_pairs (every-then (f a) h) (pairwise-then f hs)
 
 pairwise-zip : {A : Type 0} {R S T : A → A → Type 0} {l : List A} → ((a b : A) → R a b → S a b → T a b) → Pairwise R l → Pairwise S l → Pairwise T l
-pairwise-zip f no-pair no-pair = no-pair
-pairwise-zip f (more-pairs {a} h hs) (more-pairs k ks) = more-pairs (every-zip (f a) h k) (pairwise-zip f hs ks)
+pairwise-zip f no_pair no_pair = no_pair
+pairwise-zip f (more_pairs {a} h hs) (more_pairs k ks) = more_pairs (every-zip (f a) h k) (pairwise-zip f hs ks)
 
 -- ---- use and def
 same-variable : (u v : Variable) → u.0 ≡ v.0 → u ≡ v
@@ -132,29 +132,29 @@ same-variable u v e = ap variable e
 
 pub use-on : (v : Variable) (e : Exp) → Has (use_of_exp e) v.0 → UsedIn v e
 unfolding use_of_exp
-use-on v (var u) h = subst (λ (w : Variable). UsedIn v (var w)) (same-variable v u (bit-has u.0 v.0 h)) u-var
+use-on v (var u) h = subst (λ (w : Variable). UsedIn v (var w)) (same-variable v u (bit-has u.0 v.0 h)) u_var
 use-on v (const t z) h = absurd (zero_has v.0 h)
-use-on v (unary o e) h = u-unary (use-on v e h)
-use-on v (binary o a b) h = ⊎_elim (λ p. u-left (use-on v a p)) (λ p. u-right (use-on v b p)) (join-has (use_of_exp a) (use_of_exp b) v.0 h)
+use-on v (unary o e) h = u_unary (use-on v e h)
+use-on v (binary o a b) h = ⊎_elim (λ p. u_left (use-on v a p)) (λ p. u_right (use-on v b p)) (join-has (use_of_exp a) (use_of_exp b) v.0 h)
 
 pub use-back : {v : Variable} {e : Exp} → UsedIn v e → Has (use_of_exp e) v.0
 unfolding use_of_exp
-use-back {v} u-var = digit-bit-here v.0
-use-back (u-unary h) = use-back h
-use-back {v} (u-left {a = a} {b = b} h) = left-has (use_of_exp a) (use_of_exp b) v.0 (use-back h)
-use-back {v} (u-right {a = a} {b = b} h) = right-has (use_of_exp a) (use_of_exp b) v.0 (use-back h)
+use-back {v} u_var = digit-bit-here v.0
+use-back (u_unary h) = use-back h
+use-back {v} (u_left {a = a} {b = b} h) = left-has (use_of_exp a) (use_of_exp b) v.0 (use-back h)
+use-back {v} (u_right {a = a} {b = b} h) = right-has (use_of_exp a) (use_of_exp b) v.0 (use-back h)
 
 def-on : (v : Variable) (p : Pat) → Has (def_of_pat p) v.0 → DefinedIn v p
 unfolding def_of_pat
 def-on v (any t) h = absurd (zero_has v.0 h)
-def-on v (bind u) h = subst (λ (w : Variable). DefinedIn v (bind w)) (same-variable v u (bit-has u.0 v.0 h)) d-bind
+def-on v (bind u) h = subst (λ (w : Variable). DefinedIn v (bind w)) (same-variable v u (bit-has u.0 v.0 h)) d_bind
 def-on v (equals t z) h = absurd (zero_has v.0 h)
-def-on v (guarded p e) h = d-guarded (def-on v p h)
+def-on v (guarded p e) h = d_guarded (def-on v p h)
 
 def-back : {v : Variable} {p : Pat} → DefinedIn v p → Has (def_of_pat p) v.0
 unfolding def_of_pat
-def-back {v} d-bind = digit-bit-here v.0
-def-back (d-guarded h) = def-back h
+def-back {v} d_bind = digit-bit-here v.0
+def-back (d_guarded h) = def-back h
 
 pattern-on : (v : Variable) (p : Pat) → Has (use_of_pat p) v.0 → UsedInPat v p
 unfolding use_of_pat
@@ -162,97 +162,97 @@ pattern-on v (any t) h = absurd (zero_has v.0 h)
 pattern-on v (bind u) h = absurd (zero_has v.0 h)
 pattern-on v (equals t z) h = absurd (zero_has v.0 h)
 pattern-on v (guarded p e) h =
-    ⊎_elim (λ q. u-guard (use-on v e (omega (arith, digit-without (use_of_exp e) (def_of_pat p) v.0, digit-le (use_of_exp e) v.0, q)))
-    (λ d. omega (arith, digit-without (use_of_exp e) (def_of_pat p) v.0, digit-le (use_of_exp e) v.0, q, def-back d))) (λ q. u-inner (pattern-on v p q))
+    ⊎_elim (λ q. u_guard (use-on v e (omega (arith, digit-without (use_of_exp e) (def_of_pat p) v.0, digit-le (use_of_exp e) v.0, q)))
+    (λ d. omega (arith, digit-without (use_of_exp e) (def_of_pat p) v.0, digit-le (use_of_exp e) v.0, q, def-back d))) (λ q. u_inner (pattern-on v p q))
     (join-has (without (use_of_exp e) (def_of_pat p)) (use_of_pat p) v.0 h)
 
 pattern-back : {v : Variable} {p : Pat} → UsedInPat v p → Has (use_of_pat p) v.0
 unfolding use_of_pat
-pattern-back {v} (u-guard {p} {e} h f) =
+pattern-back {v} (u_guard {p} {e} h f) =
     left-has (without (use_of_exp e) (def_of_pat p)) (use_of_pat p) v.0 (go (ℕ_discrete (digit (def_of_pat p) v.0) 1))
   where
     go : Dec (digit (def_of_pat p) v.0 ≡ 1) → Has (without (use_of_exp e) (def_of_pat p)) v.0
     go (yes q) = absurd (f (def-on v p q))
     go (no q) = omega (arith, digit-without (use_of_exp e) (def_of_pat p) v.0, use-back h, digit-le (def_of_pat p) v.0, q)
-pattern-back {v} (u-inner {p} {e} h) = right-has (without (use_of_exp e) (def_of_pat p)) (use_of_pat p) v.0 (pattern-back h)
+pattern-back {v} (u_inner {p} {e} h) = right-has (without (use_of_exp e) (def_of_pat p)) (use_of_pat p) v.0 (pattern-back h)
 
 offer-use-on : (v : Variable) (o : Offer) → Has (use_of_offer o) v.0 → UsedInOffer v o
-offer-use-on v (emit e) h = u-emit (use-on v e h)
-offer-use-on v (receive p) h = u-receive (pattern-on v p h)
+offer-use-on v (emit e) h = u_emit (use-on v e h)
+offer-use-on v (receive p) h = u_receive (pattern-on v p h)
 
 offer-use-back : {v : Variable} {o : Offer} → UsedInOffer v o → Has (use_of_offer o) v.0
-offer-use-back (u-emit h) = use-back h
-offer-use-back (u-receive h) = pattern-back h
+offer-use-back (u_emit h) = use-back h
+offer-use-back (u_receive h) = pattern-back h
 
 offer-def-on : (v : Variable) (o : Offer) → Has (def_of_offer o) v.0 → DefinedInOffer v o
 offer-def-on v (emit e) h = absurd (zero_has v.0 h)
-offer-def-on v (receive p) h = d-receive (def-on v p h)
+offer-def-on v (receive p) h = d_receive (def-on v p h)
 
 offer-def-back : {v : Variable} {o : Offer} → DefinedInOffer v o → Has (def_of_offer o) v.0
-offer-def-back (d-receive h) = def-back h
+offer-def-back (d_receive h) = def-back h
 
 -- ---- what an action touches
 mutual
   unfolding touches
 
   pub touch-on : (v : Variable) (a : Action) → Has (touches a) v.0 → Touched v a
-  touch-on v (at r a) h = h-at (touch-act v a h)
+  touch-on v (at r a) h = h_at (touch-act v a h)
 
   touch-act : (v : Variable) (a : Act) → Has (touches_act a) v.0 → TouchedAct v a
   touch-act v null h = absurd (zero_has v.0 h)
-  touch-act v (assign is) h = h-assign (some-on _ _ v.0 (λ i p. same-variable v i.v (bit-has i.v.0 v.0 p)) is h)
-  touch-act v (choose is e) h = h-choose (some-on _ _ v.0 (λ i p. same-variable v i.v (bit-has i.v.0 v.0 p)) is h)
-  touch-act v (reset vs) h = h-reset (some-on _ _ v.0 (λ u p. same-variable v u (bit-has u.0 v.0 p)) vs h)
-  touch-act v (communicate g os) h = h-communicate (some-on _ _ v.0 (λ o p. offer-def-on v o p) os h)
+  touch-act v (assign is) h = h_assign (some-on _ _ v.0 (λ i p. same-variable v i.v (bit-has i.v.0 v.0 p)) is h)
+  touch-act v (choose is e) h = h_choose (some-on _ _ v.0 (λ i p. same-variable v i.v (bit-has i.v.0 v.0 p)) is h)
+  touch-act v (reset vs) h = h_reset (some-on _ _ v.0 (λ u p. same-variable v u (bit-has u.0 v.0 p)) vs h)
+  touch-act v (communicate g os) h = h_communicate (some-on _ _ v.0 (λ o p. offer-def-on v o p) os h)
   touch-act v (to q) h = absurd (zero_has v.0 h)
-  touch-act v (then a b) h = ⊎_elim (λ p. h-first (touch-on v a p)) (λ p. h-second (touch-on v b p)) (join-has (touches a) (touches b) v.0 h)
-  touch-act v (select bs) h = h-select (touch-branches v bs h)
-  touch-act v (case e arms) h = h-case (touch-arms v arms h)
-  touch-act v (while e a) h = h-while (touch-on v a h)
+  touch-act v (then a b) h = ⊎_elim (λ p. h_first (touch-on v a p)) (λ p. h_second (touch-on v b p)) (join-has (touches a) (touches b) v.0 h)
+  touch-act v (select bs) h = h_select (touch-branches v bs h)
+  touch-act v (case e arms) h = h_case (touch-arms v arms h)
+  touch-act v (while e a) h = h_while (touch-on v a h)
   touch-act v (for u low high a) h =
-      ⊎_elim (λ p. subst (λ (w : Variable). TouchedAct v (for w low high a)) (same-variable v u (bit-has u.0 v.0 p)) h-range)
-      (λ p. h-for (touch-on v a p)) (join-has (bit u.0) (touches a) v.0 h)
+      ⊎_elim (λ p. subst (λ (w : Variable). TouchedAct v (for w low high a)) (same-variable v u (bit-has u.0 v.0 p)) h_range)
+      (λ p. h_for (touch-on v a p)) (join-has (bit u.0) (touches a) v.0 h)
 
   touch-branches : (v : Variable) (bs : Branches) → Has (touches_branches bs) v.0 → TouchedBranches v bs
   touch-branches v no_branch h = absurd (zero_has v.0 h)
   touch-branches v (branch a bs) h =
-      ⊎_elim (λ p. h-branch (touch-on v a p)) (λ p. h-branches (touch-branches v bs p)) (join-has (touches a) (touches_branches bs) v.0 h)
+      ⊎_elim (λ p. h_branch (touch-on v a p)) (λ p. h_branches (touch-branches v bs p)) (join-has (touches a) (touches_branches bs) v.0 h)
 
   touch-arms : (v : Variable) (arms : Arms) → Has (touches_arms arms) v.0 → TouchedArms v arms
   touch-arms v no_arm h = absurd (zero_has v.0 h)
   touch-arms v (arm p a rest) h =
-      ⊎_elim (λ q. h-pattern (def-on v p q)) (λ q.
-      ⊎_elim (λ k. h-arm (touch-on v a k)) (λ k. h-arms (touch-arms v rest k)) (join-has (touches a) (touches_arms rest) v.0 q))
+      ⊎_elim (λ q. h_pattern (def-on v p q)) (λ q.
+      ⊎_elim (λ k. h_arm (touch-on v a k)) (λ k. h_arms (touch-arms v rest k)) (join-has (touches a) (touches_arms rest) v.0 q))
       (join-has (def_of_pat p) (join (touches a) (touches_arms rest)) v.0 h)
 
 mutual
   unfolding touches
 
   pub touch-back : {v : Variable} {a : Action} → Touched v a → Has (touches a) v.0
-  touch-back (h-at h) = back-act h
+  touch-back (h_at h) = back-act h
 
   back-act : {v : Variable} {a : Act} → TouchedAct v a → Has (touches_act a) v.0
-  back-act {v} (h-assign h) = some_back _ v.0 (λ i p. same-has i.v.0 v.0 (ap (λ (u : Variable). u.0) p)) h
-  back-act {v} (h-choose h) = some_back _ v.0 (λ i p. same-has i.v.0 v.0 (ap (λ (u : Variable). u.0) p)) h
-  back-act {v} (h-reset h) = some_back _ v.0 (λ u p. same-has u.0 v.0 (ap (λ (u : Variable). u.0) p)) h
-  back-act {v} (h-communicate h) = some_back _ v.0 (λ o p. offer-def-back p) h
-  back-act {v} (h-first {a} {b} h) = left-has (touches a) (touches b) v.0 (touch-back h)
-  back-act {v} (h-second {a} {b} h) = right-has (touches a) (touches b) v.0 (touch-back h)
-  back-act (h-select h) = back-branches h
-  back-act (h-case h) = back-arms h
-  back-act (h-while h) = touch-back h
-  back-act {v} (h-range {a = a}) = left-has (bit v.0) (touches a) v.0 (digit-bit-here v.0)
-  back-act {v} (h-for {u} {a = a} h) = right-has (bit u.0) (touches a) v.0 (touch-back h)
+  back-act {v} (h_assign h) = some_back _ v.0 (λ i p. same-has i.v.0 v.0 (ap (λ (u : Variable). u.0) p)) h
+  back-act {v} (h_choose h) = some_back _ v.0 (λ i p. same-has i.v.0 v.0 (ap (λ (u : Variable). u.0) p)) h
+  back-act {v} (h_reset h) = some_back _ v.0 (λ u p. same-has u.0 v.0 (ap (λ (u : Variable). u.0) p)) h
+  back-act {v} (h_communicate h) = some_back _ v.0 (λ o p. offer-def-back p) h
+  back-act {v} (h_first {a} {b} h) = left-has (touches a) (touches b) v.0 (touch-back h)
+  back-act {v} (h_second {a} {b} h) = right-has (touches a) (touches b) v.0 (touch-back h)
+  back-act (h_select h) = back-branches h
+  back-act (h_case h) = back-arms h
+  back-act (h_while h) = touch-back h
+  back-act {v} (h_range {a = a}) = left-has (bit v.0) (touches a) v.0 (digit-bit-here v.0)
+  back-act {v} (h_for {u} {a = a} h) = right-has (bit u.0) (touches a) v.0 (touch-back h)
 
   back-branches : {v : Variable} {bs : Branches} → TouchedBranches v bs → Has (touches_branches bs) v.0
-  back-branches {v} (h-branch {a} {bs} h) = left-has (touches a) (touches_branches bs) v.0 (touch-back h)
-  back-branches {v} (h-branches {a} {bs} h) = right-has (touches a) (touches_branches bs) v.0 (back-branches h)
+  back-branches {v} (h_branch {a} {bs} h) = left-has (touches a) (touches_branches bs) v.0 (touch-back h)
+  back-branches {v} (h_branches {a} {bs} h) = right-has (touches a) (touches_branches bs) v.0 (back-branches h)
 
   back-arms : {v : Variable} {arms : Arms} → TouchedArms v arms → Has (touches_arms arms) v.0
-  back-arms {v} (h-pattern {p} {a} {rest} h) = left-has (def_of_pat p) (join (touches a) (touches_arms rest)) v.0 (def-back h)
-  back-arms {v} (h-arm {p} {a} {rest} h) =
+  back-arms {v} (h_pattern {p} {a} {rest} h) = left-has (def_of_pat p) (join (touches a) (touches_arms rest)) v.0 (def-back h)
+  back-arms {v} (h_arm {p} {a} {rest} h) =
       right-has (def_of_pat p) (join (touches a) (touches_arms rest)) v.0 (left-has (touches a) (touches_arms rest) v.0 (touch-back h))
-  back-arms {v} (h-arms {p} {a} {rest} h) =
+  back-arms {v} (h_arms {p} {a} {rest} h) =
       right-has (def_of_pat p) (join (touches a) (touches_arms rest)) v.0 (right-has (touches a) (touches_arms rest) v.0 (back-arms h))
 
 -- ---- the rules
@@ -263,14 +263,14 @@ apart-bits u v = record {
 }
 
 pub all-bound-pat : (p : Pat) → BoundPat p
-all-bound-pat (any t) = b-any
-all-bound-pat (bind v) = b-bind
-all-bound-pat (equals t z) = b-equals
-all-bound-pat (guarded p e) = b-guarded (all-bound-pat p)
+all-bound-pat (any t) = b_any
+all-bound-pat (bind v) = b_bind
+all-bound-pat (equals t z) = b_equals
+all-bound-pat (guarded p e) = b_guarded (all-bound-pat p)
 
 bound-offer : (o : Offer) → BoundOffer o
-bound-offer (emit e) = b-emit
-bound-offer (receive p) = b-receive (all-bound-pat p)
+bound-offer (emit e) = b_emit
+bound-offer (receive p) = b_receive (all-bound-pat p)
 
 bound-offers : (os : List Offer) → Every BoundOffer os
 bound-offers [] = none_left
@@ -318,17 +318,17 @@ for-rule v a = record {
 -- a judged node passes its test
 pub bound-passes : {a : Act} → BoundAct a → bound_act a ≡ true
 unfolding bound_act
-bound-passes b-null = refl
-bound-passes b-to = refl
-bound-passes (b-reset {vs} h) = (variables-rule vs).on h
-bound-passes (b-assign {is} h) = (gets-rule is).on h
-bound-passes (b-choose {is} h) = (of_types-rule is).on h
-bound-passes (b-communicate {os = os} h k) = (offers-rule os).on (h, k)
+bound-passes b_null = refl
+bound-passes b_to = refl
+bound-passes (b_reset {vs} h) = (variables-rule vs).on h
+bound-passes (b_assign {is} h) = (gets-rule is).on h
+bound-passes (b_choose {is} h) = (of_types-rule is).on h
+bound-passes (b_communicate {os = os} h k) = (offers-rule os).on (h, k)
 bound-passes (b_then h k) = refl
-bound-passes (b-select h) = refl
-bound-passes (b-case h) = refl
-bound-passes (b-while h) = refl
-bound-passes (b-for {v} {a = a} f h) = (for-rule v a).on f
+bound-passes (b_select h) = refl
+bound-passes (b_case h) = refl
+bound-passes (b_while h) = refl
+bound-passes (b_for {v} {a = a} f h) = (for-rule v a).on f
 
 -- ---- the condition
 entries-small : (n : ℕ) (es : List Entry) → entries_fit n es ≡ true → (v : ℕ) → (get_or es v (record { type = 0; parameter = 0 })).parameter ≤ 1

@@ -11,7 +11,7 @@ use Rattle.model.specs.Image.{Tables, none, size_of, tables_of}
 use Rattle.model.specs.Trees.{Offer, emit, receive, OfType, Action}
 use Rattle.model.specs.Run.{Label, ε, label_words, Res}
 use Rattle.model.specs.Calls.{image_verdict, slot_fits, step_verdict, attempt, moved_as, stepped_as, step}
-use Rattle.model.specs.Figure2.{Next, OfThe, MayTake, Accepts, all-run, runs, none_left, one_more, Chosen, Does, d-null, d-to, d-assign, d-choose, d-reset, d-communicate, d-then, d-leave, d-select, d-case, d-again, d-done, d-for, cost, received, choices}
+use Rattle.model.specs.Figure2.{Next, OfThe, MayTake, Accepts, all_run, runs, none_left, one_more, Chosen, Does, d_null, d_to, d_assign, d_choose, d_reset, d_communicate, d_then, d_leave, d_select, d_case, d_again, d_done, d_for, cost, received, choices}
 use Rattle.model.proofs.Rows.{both_true}
 use Rattle.model.proofs.Order.{after-accepted, each-accepts}
 use Rattle.demands.specs.Statements.{script_of, TransitionsAreMoves}
@@ -46,24 +46,24 @@ module _ (x : Tables) (half : x.half ≡ 32768) (few : (t : ℕ) → size_of x t
 
   received-words : {os : List Offer} {zs m n : List ℤ} → Accepts x os zs m n → All Word (received os zs)
   unfolding received
-  received-words all-run = nil
+  received-words all_run = nil
   received-words (runs {o} {os} {z} {zs} t e a) = received-one o os z zs t (received-words a)
 
   words : {a : Action} {m n : List ℤ} {l : Label} {o : Next} (d : Does x a m l o n) → Fit a → All Word (choices d)
   unfolding choices Fit FitAct
-  words d-null f = nil
-  words d-to f = nil
-  words (d-assign p) f = nil
-  words (d-choose p q) f = chosen-words p
-  words d-reset f = nil
-  words (d-communicate p) f = received-words p
-  words (d-then d e p) f = all_append (words d f.0) (words e f.1)
-  words (d-leave d) f = words d f.0
-  words (d-select {i} p d) f = let h = f.0 in cons {a = pos i} (omega (arith, branch-number p)) (words d (fit-branch p f.1))
-  words (d-case p t d) f = words d (fit-arm t f)
-  words (d-again p d) f = words d (f.1, f)
-  words (d-done p) f = nil
-  words (d-for d) f = words d (tt, (f.0, (f.1, tt)))
+  words d_null f = nil
+  words d_to f = nil
+  words (d_assign p) f = nil
+  words (d_choose p q) f = chosen-words p
+  words d_reset f = nil
+  words (d_communicate p) f = received-words p
+  words (d_then d e p) f = all_append (words d f.0) (words e f.1)
+  words (d_leave d) f = words d f.0
+  words (d_select {i} p d) f = let h = f.0 in cons {a = pos i} (omega (arith, branch-number p)) (words d (fit-branch p f.1))
+  words (d_case p t d) f = words d (fit-arm t f)
+  words (d_again p d) f = words d (f.1, f)
+  words (d_done p) f = nil
+  words (d_for d) f = words d (tt, (f.0, (f.1, tt)))
 
 -- ---- step
 accepted : (image : List ℕ) (q : State) (store : List ℤ) (budget : ℕ) (label : List ℤ) → image_verdict image ≡ Accepted

@@ -9,7 +9,7 @@ use Rattle.model.specs.Image.{Tables, none}
 use Rattle.model.specs.Trees.{Exp, Offer, emit, receive, Gets, OfType, Action, at, Act, null, assign, choose, reset, communicate, to, then, select, case, while, Branches, Arms}
 use Rattle.model.specs.Typing.{type_of_pat}
 use Rattle.model.specs.Run.{store, eval, test, match, Label, ε, on, St, Res, gives, stored, and_then, reading, reading_of, storing, choosing, offering, communicating, exec, exec_act, exec_branch, exec_arms}
-use Rattle.model.specs.Figure2.{Next, onto, ended, found, accept, OfThe, MayTake, Accepts, all-run, runs, none_left, one_more, Evals, Chosen, update, getters, choosers, Sum, Nth, here, further, Taken, this, later, expansion, Does, d-null, d-to, d-assign, d-choose, d-reset, d-communicate, d-then, d-leave, d-select, d-case, d-again, d-done, d-for, toll, cost, received, choices, Sure, ReadsDefined}
+use Rattle.model.specs.Figure2.{Next, onto, ended, found, accept, OfThe, MayTake, Accepts, all_run, runs, none_left, one_more, Evals, Chosen, update, getters, choosers, Sum, Nth, here, further, Taken, this, later, expansion, Does, d_null, d_to, d_assign, d_choose, d_reset, d_communicate, d_then, d_leave, d_select, d_case, d_again, d_done, d_for, toll, cost, received, choices, Sure, ReadsDefined}
 use Rattle.model.proofs.Run.{paid, heard, match-rule, charge-none, charge-rule, charge-cong, then-cong, reading-word, reading_of-word, valued-is, tested-holds, looping-holds, looping-fails, looping-enough, exec-left, for-expansion}
 use Rattle.demands.proofs.Script.{Reads, reads-split}
 use Rattle.demands.proofs.Figure.{made, found-match, emitted, sum-part, toll-none, toll-some, assign-stays}
@@ -78,7 +78,7 @@ module _ (x : Tables) where
       offers : {os : List Offer} {zs m k : List ℤ} (vs : List ℤ) (i j : ℕ) → Accepts x os zs m k → Reads script i (received os zs) j
           → offering x g os vs script r (made m i n l) ≡ gives Ends (made k j n (on g (vs ++ zs)))
       unfolding offering received
-      offers vs i j (all-run {m}) p = rw (p, append-nil vs)
+      offers vs i j (all_run {m}) p = rw (p, append-nil vs)
       offers vs i j (runs {o} {os} {z} {zs} {m} {n = k} {k = h} t e a) p =
           offers-one o os z zs vs m k h i j t e p (λ y q. offers (vs ++ (z ∷ [])) y j a q)
 
@@ -127,53 +127,53 @@ module _ (x : Tables) where
   -- a for's derivation has its while's unit
   while-costs : {r : ℕ} {e : Exp} {a : Action} {m n : List ℤ} {l : Label} {o : Next} (d : Does x (at r (while e a)) m l o n) → (r ≡ none → ⊥) → 0 < cost d
   unfolding cost
-  while-costs (d-again {r} h d) f = omega (arith, toll-some r f)
-  while-costs (d-done {r} h) f = omega (arith, toll-some r f)
+  while-costs (d_again {r} h d) f = omega (arith, toll-some r f)
+  while-costs (d_done {r} h) f = omega (arith, toll-some r f)
 
   for-costs : {r : ℕ} {v : Variable} {low high : ℤ} {a : Action} {m n : List ℤ} {l : Label} {o : Next} (d : Does x (expansion r v low high a) m l o n)
       → (r ≡ none → ⊥) → 0 < cost d
   unfolding cost
-  for-costs (d-then d e p) f = omega (arith, while-costs e f)
-  for-costs (d-leave d) f = absurd (assign-stays d)
+  for-costs (d_then d e p) f = omega (arith, while-costs e f)
+  for-costs (d_leave d) f = absurd (assign-stays d)
 
   -- the run of a derivation: from place i of the script to place j, its cost and these units before it, label k before it
   pub derived : {a : Action} {m n : List ℤ} {l : Label} {o : Next} (d : Does x a m l o n) → Fit a → ReadsDefined d
       → (script : List ℕ) (i j left : ℕ) (k h : Label) → Reads script i (choices d) j → Sum k l h
       → exec x a script (made m i (cost d + left) k) ≡ gives (goes o) (made n j left h)
   unfolding exec cost choices ReadsDefined Fit FitAct and_then communicating
-  derived (d-null {r} {m}) f y script i j left k h w s = enter script r null m i _ left k refl ∙ rests Ends m i j left k h w s
-  derived (d-to {r} {q} {m}) f y script i j left k h w s = enter script r (to q) m i _ left k refl ∙ rests (Jumps q) m i j left k h w s
-  derived (d-assign {r} {is} {m} p) f y script i j left k h w s =
+  derived (d_null {r} {m}) f y script i j left k h w s = enter script r null m i _ left k refl ∙ rests Ends m i j left k h w s
+  derived (d_to {r} {q} {m}) f y script i j left k h w s = enter script r (to q) m i _ left k refl ∙ rests (Jumps q) m i j left k h w s
+  derived (d_assign {r} {is} {m} p) f y script i j left k h w s =
       enter script r (assign is) m i _ left k refl ∙ puts script r (made m i left k) m p ∙ rests Ends _ i j left k h w s
-  derived (d-choose {r} {is} {e} {m} p q) f y script i j left k h w s =
+  derived (d_choose {r} {is} {e} {m} p q) f y script i j left k h w s =
       enter script r (choose is e) m i _ left k refl ∙ chooses script r e m i j left k p q w ∙ rests Ends _ j j left k h refl s
-  derived (d-reset {r} {vs} {m}) f y script i j left k h w s = enter script r (reset vs) m i _ left k refl ∙ rests Ends _ i j left k h w s
-  derived (d-communicate {r} {g} {os} {m} p) f y script i j left k h w s =
+  derived (d_reset {r} {vs} {m}) f y script i j left k h w s = enter script r (reset vs) m i _ left k refl ∙ rests Ends _ i j left k h w s
+  derived (d_communicate {r} {g} {os} {m} p) f y script i j left k h w s =
       enter script r (communicate g os) m i _ left k refl ∙ speaks script r g i j left k h p w s
-  derived (d-then {r} {a} {b} {m} {l₁} {l₂} {l} d e p) f y script i j left k h w s =
+  derived (d_then {r} {a} {b} {m} {l₁} {l₂} {l} d e p) f y script i j left k h w s =
       let q = reads-split script i (choices d) (choices e) j w in
       let t = sum-part k l₁ l₂ l h p s in
       enter script r (then a b) m i _ (cost d + (cost e + left)) k (omega arith)
       ∙ ap (λ z. and_then z (λ u. exec x b script u)) (derived d f.0 y.0 script i q.0 (cost e + left) k t.0 q.1 t.1)
       ∙ derived e f.1 y.1 script q.0 j left t.0 h q.2 t.2
-  derived (d-leave {r} {a} {b} {m} d) f y script i j left k h w s =
+  derived (d_leave {r} {a} {b} {m} d) f y script i j left k h w s =
       enter script r (then a b) m i _ (cost d + left) k (omega arith)
       ∙ ap (λ z. and_then z (λ u. exec x b script u)) (derived d f.0 y script i j left k h w s)
-  derived (d-select {r} {i = z} {bs} {a} {m} p d) f y script i j left k h w s =
+  derived (d_select {r} {i = z} {bs} {a} {m} p d) f y script i j left k h w s =
       let u = made m i (cost d + left) k in
       enter script r (select bs) m i _ (cost d + left) k (omega arith)
       ∙ selects script r u p
       ∙ reading-word script r u (λ z u. exec_branch x bs z script r u) w.0 ∙ ap (λ (z : ℤ). exec_branch x bs z script r (heard u)) w.1
       ∙ picks script r (heard u) p ∙ derived d (fit-branch p f.1) y script (i + 1) j left k h w.2 s
-  derived (d-case {r} {e} {arms} {a} {z} {m} p t d) f y script i j left k h w s =
+  derived (d_case {r} {e} {arms} {a} {z} {m} p t d) f y script i j left k h w s =
       enter script r (case e arms) m i _ (cost d + left) k (omega arith) ∙ valued-is _ r _ _ z p ∙ takes script r i (cost d + left) k t y.0
       ∙ derived d (fit-arm t f) y.1 script i j left k h w s
-  derived (d-again {r} {e} {a} {m} p d) f y script i j left k h w s =
+  derived (d_again {r} {e} {a} {m} p d) f y script i j left k h w s =
       enter script r (while e a) m i _ (cost d + left) k (omega arith) ∙ turns script r e a (made m i (cost d + left) k) f.0 p
       ∙ derived d (f.1, f) y script i j left k h w s
-  derived (d-done {r} {e} {a} {m} p) f y script i j left k h w s =
+  derived (d_done {r} {e} {a} {m} p) f y script i j left k h w s =
       enter script r (while e a) m i _ left k refl ∙ looping-fails x e (λ u. exec x a script u) r left (made m i left k) p ∙ rests Ends m i j left k h w s
-  derived (d-for {r} {v} {low} {high} {a} {m} {s = o} d) f y script i j left k h w s =
+  derived (d_for {r} {v} {low} {high} {a} {m} {s = o} d) f y script i j left k h w s =
       let e = derived d (tt, (f.0, (f.1, tt))) y script i j left k h w s in
       for-expansion x r v low high a script (made m i (cost d + left) k) (omega (arith, for-costs d f.0)) (λ q z _ c.
       goes_on o z (sym (ap (λ (g : Res). g.out) e) ∙ c)) ∙ e

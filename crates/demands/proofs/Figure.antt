@@ -9,7 +9,7 @@ use Rattle.model.specs.Values.{same}
 use Rattle.model.specs.Image.{Tables, none}
 use Rattle.model.specs.Trees.{Exp, Pat, any, bind, equals, guarded, emit, Gets, at, assign}
 use Rattle.model.specs.Run.{eval, test, Match, matched, failed, unsure, match, Label, ε, on, spoken, St}
-use Rattle.model.specs.Figure2.{Found, fail, found, match_of, accept, Sum, Next, onto, ended, Does, d-assign, toll}
+use Rattle.model.specs.Figure2.{Found, fail, found, match_of, accept, Sum, Next, onto, ended, Does, d_assign, toll}
 use Rattle.model.proofs.Values.{same_refl, same-eq}
 
 -- what a run threads, by its parts
@@ -127,7 +127,7 @@ pub toll-some : (r : ℕ) → (r ≡ none → ⊥) → toll r ≡ 1
 toll-some r f = rw (ne_eqb r none f)
 
 assign-ends : {x : Tables} {r : ℕ} {is : List Gets} {m n : List ℤ} {l : Label} {o : Next} → Does x (at r (assign is)) m l o n → o ≡ ended
-assign-ends (d-assign p) = refl
+assign-ends (d_assign p) = refl
 
 pub assign-stays : {x : Tables} {r : ℕ} {is : List Gets} {m n : List ℤ} {l : Label} {q : State} → Does x (at r (assign is)) m l (onto q) n → ⊥
 assign-stays d = let e = assign-ends d in let c : ◌≡◌ {A = ℕ} 0 1 = cc in omega arith

@@ -9,7 +9,7 @@ use Rattle.model.specs.Image.{Tables, none}
 use Rattle.model.specs.Trees.{Exp, Pat, Offer, emit, receive, Gets, OfType, Action, at, Act, assign, choose, communicate, then, while}
 use Rattle.model.specs.Typing.{type_of_pat}
 use Rattle.model.specs.Run.{store, eval, test, matched, match, Label, ε, on, spoken, St, Res, gives, stored, charge, and_then, assigning, storing, choosing, offering}
-use Rattle.model.specs.Figure2.{Next, onto, ended, OfThe, accept, Accepts, all-run, runs, none_left, one_more, Evals, Chosen, update, getters, choosers, Sum, Does, d-assign, d-choose, d-communicate, d-then, d-leave, d-again, toll, cost, received, choices, ReadsDefined}
+use Rattle.model.specs.Figure2.{Next, onto, ended, OfThe, accept, Accepts, all_run, runs, none_left, one_more, Evals, Chosen, update, getters, choosers, Sum, Does, d_assign, d_choose, d_communicate, d_then, d_leave, d_again, toll, cost, received, choices, ReadsDefined}
 use Rattle.model.proofs.Run.{paid, heard, match-rule, charge-rule, reading_of-rule, valued-rule, tested-rule}
 use Rattle.demands.proofs.Hoare.{Post, Shown, weaken as weaken-shown, after as after-shown}
 use Rattle.demands.proofs.Script.{Reads, reads_both}
@@ -58,7 +58,7 @@ module _ (x : Tables) (script : List ℕ) where
       let l = sum-join s.label p.said u.label q.said w.label p.sum q.sum in
       record {
         said = l.0;
-        does = d-then p.does q.does l.1;
+        does = d_then p.does q.does l.1;
         sure = (p.sure, q.sure);
         sum = l.2;
         pays = omega (arith, p.pays, q.pays);
@@ -68,12 +68,12 @@ module _ (x : Tables) (script : List ℕ) where
   pub leave : {a : Action} {s u : St} {j : ℕ} {q : State} (b : Action) (r n : ℕ) → Run a s j (onto q) u → n ≡ toll r + j
       → Run (at r (then a b)) s n (onto q) u
   unfolding cost choices ReadsDefined
-  leave b r n p e = record { said = p.said; does = d-leave p.does; sure = p.sure; sum = p.sum; pays = omega (arith, p.pays); words = p.words }
+  leave b r n p e = record { said = p.said; does = d_leave p.does; sure = p.sure; sum = p.sum; pays = omega (arith, p.pays); words = p.words }
 
   pub again : {e : Exp} {a : Action} {s u : St} {j : ℕ} {o : Next} (r : ℕ) → test x e s.store ≡ Holds
       → Run (at none (then a (at r (while e a)))) s j o u → Run (at r (while e a)) s (toll r + j) o u
   unfolding cost choices ReadsDefined
-  again r h p = record { said = p.said; does = d-again h p.does; sure = p.sure; sum = p.sum; pays = omega (arith, p.pays); words = p.words }
+  again r h p = record { said = p.said; does = d_again h p.does; sure = p.sure; sum = p.sum; pays = omega (arith, p.pays); words = p.words }
 
   -- with other units, whatever the state has left
   priced : {a : Action} {s u : St} {o : Next} {j : ℕ} (n k : ℕ) → Run a s j o u → j ≡ k → Run a (made s.store s.words n s.label) k o u
@@ -103,7 +103,7 @@ module _ (x : Tables) (script : List ℕ) where
 
   put-run : {is : List Gets} {s u : St} {o : Next} (q : ℕ) → Put is s.store s o u → Run (at q (assign is)) s (toll q + s.left) o u
   unfolding cost choices ReadsDefined
-  put-run {s = s} q (put es) = record { said = ε; does = d-assign es; sure = tt; sum = sum-none s.label; pays = refl; words = refl }
+  put-run {s = s} q (put es) = record { said = ε; does = d_assign es; sure = tt; sum = sum-none s.label; pays = refl; words = refl }
 
   -- an assignment at row q, its refusals at row r
   pub assigned : (is : List Gets) (q r : ℕ) (s : St) → Moves (Run (at q (assign is)) s (toll q + s.left)) (assigning x is r s)
@@ -129,7 +129,7 @@ module _ (x : Tables) (script : List ℕ) where
 
   pub chose-run : {is : List OfType} {e : Exp} {s u : St} {o : Next} (r : ℕ) → Chose is e s o u → Run (at r (choose is e)) s (toll r + s.left) o u
   unfolding cost choices ReadsDefined
-  chose-run {s = s} r (chose j c h p) = record { said = ε; does = d-choose c h; sure = tt; sum = sum-none s.label; pays = refl; words = p }
+  chose-run {s = s} r (chose j c h p) = record { said = ε; does = d_choose c h; sure = tt; sum = sum-none s.label; pays = refl; words = p }
 
   pub data Spoke (g : Gate) (os : List Offer) (vs : List ℤ) (s : St) : Next → St → Type 0 where
     spoke : {zs n : List ℤ} (j : ℕ) → Accepts x os zs s.store n → Reads script s.words (received os zs) j
@@ -151,7 +151,7 @@ module _ (x : Tables) (script : List ℕ) where
   pub offering-spoke : (g : Gate) (os : List Offer) (vs : List ℤ) (r : ℕ) (s : St) → Moves (Spoke g os vs s) (offering x g os vs script r s)
   unfolding offering received
   offering-spoke g [] vs r s =
-      ends (subst (λ (l : List ℤ). Spoke g [] vs s ended (made s.store s.words s.left (on g l))) (append-nil vs) (spoke s.words all-run refl))
+      ends (subst (λ (l : List ℤ). Spoke g [] vs s ended (made s.store s.words s.left (on g l))) (append-nil vs) (spoke s.words all_run refl))
   offering-spoke g (emit e ∷ os) vs r s =
       valued-rule (Moves (Spoke g (emit e ∷ os) vs s)) (eval x e s.store) r s _
       (λ z h. weaken (λ o u p. one-emitted h p) (offering-spoke g os _ r s)) (λ h. stops)
@@ -165,4 +165,4 @@ module _ (x : Tables) (script : List ℕ) where
   pub spoke-run : {g : Gate} {os : List Offer} {s u : St} {o : Next} (r : ℕ) → spoken s.label ≡ false → Spoke g os [] s o u
       → Run (at r (communicate g os)) s (toll r + s.left) o u
   unfolding cost choices ReadsDefined
-  spoke-run {s = s} r e (spoke j a p) = record { said = on _ _; does = d-communicate a; sure = tt; sum = sum_first s.label _ e; pays = refl; words = p }
+  spoke-run {s = s} r e (spoke j a p) = record { said = on _ _; does = d_communicate a; sure = tt; sum = sum_first s.label _ e; pays = refl; words = p }

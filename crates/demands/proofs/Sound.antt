@@ -11,7 +11,7 @@ use Rattle.model.specs.Decode.{act}
 use Rattle.model.specs.Trees.{Exp, Action, at, Act, null, assign, choose, reset, communicate, to, then, select, case, while, for, Branches, no_branch, branch, some_branch, Arms, no_arm, arm}
 use Rattle.model.specs.Run.{store, eval, test, match, Label, ε, spoken, label_words, St, Res, gives, stored, charge, communicating, looping, at_most_high, to_low, onward, exec, exec_act, exec_branch, exec_arms}
 use Rattle.model.specs.Calls.{step_verdict, attempt, StepDone, moved_as, stepped_as, step}
-use Rattle.model.specs.Figure2.{Next, Nth, here, further, Taken, this, later, expansion, d-null, d-to, d-reset, d-select, d-case, d-done, d-for, toll, cost, choices, Sure, ReadsDefined}
+use Rattle.model.specs.Figure2.{Next, Nth, here, further, Taken, this, later, expansion, d_null, d_to, d_reset, d_select, d_case, d_done, d_for, toll, cost, choices, Sure, ReadsDefined}
 use Rattle.model.proofs.Run.{heard, if-rule, match-rule, reading-rule, valued-rule, tested-rule, looping-step}
 use Rattle.demands.specs.Statements.{Transition, MovesAreTransitions}
 use Rattle.demands.proofs.Script.{reads-length, reads-table}
@@ -29,7 +29,7 @@ module _ (x : Tables) (script : List ℕ) where
       rw (looping-step x e body r n s) (tested-rule K (test x e s.store) r s _ _
       (λ t. after (λ u. charge r u (looping n x e body r)) (λ q u p. again x script r t (leave x script _ none _ p (omega arith)))
       (λ u p. weaken (λ o w q. again x script r t (pair x script none _ p q (omega arith))) (charged x script r (while e a) u _ (looping-run n r e a body h))) (h s))
-      (λ t. ends (record { said = ε; does = d-done t; sure = tt; sum = sum-none s.label; pays = refl; words = refl }))
+      (λ t. ends (record { said = ε; does = d_done t; sure = tt; sum = sum-none s.label; pays = refl; words = refl }))
       (λ t. stops))
 
   record Picked (bs : Branches) (z : ℤ) (s : St) (o : Next) (u : St) : Type 0 where
@@ -51,19 +51,19 @@ module _ (x : Tables) (script : List ℕ) where
   unfolding cost choices ReadsDefined
   picked-run r l p =
       let q = p.run in
-      record { said = q.said; does = d-select p.nth q.does; sure = q.sure; sum = q.sum; pays = omega (arith, q.pays); words = (l, p.is, q.words) }
+      record { said = q.said; does = d_select p.nth q.does; sure = q.sure; sum = q.sum; pays = omega (arith, q.pays); words = (l, p.is, q.words) }
 
   armed-run : {e : Exp} {arms : Arms} {z : ℤ} {s u : St} {o : Next} (r : ℕ) → eval x e s.store ≡ Is z → Armed arms z s o u
       → Run x script (at r (case e arms)) s (toll r + s.left) o u
   unfolding cost choices ReadsDefined
   armed-run r h p =
       let q = p.run in
-      record { said = q.said; does = d-case h p.taken q.does; sure = (p.sure, q.sure); sum = q.sum; pays = omega (arith, q.pays); words = q.words }
+      record { said = q.said; does = d_case h p.taken q.does; sure = (p.sure, q.sure); sum = q.sum; pays = omega (arith, q.pays); words = q.words }
 
   for-run : {v : Variable} {low high : ℤ} {a : Action} {s u : St} {o : Next} {j : ℕ} (r : ℕ) → Run x script (expansion r v low high a) s j o u
       → Run x script (at r (for v low high a)) s j o u
   unfolding cost choices ReadsDefined
-  for-run r p = record { said = p.said; does = d-for p.does; sure = p.sure; sum = p.sum; pays = p.pays; words = p.words }
+  for-run r p = record { said = p.said; does = d_for p.does; sure = p.sure; sum = p.sum; pays = p.pays; words = p.words }
 
   -- ---- every action
   mutual
@@ -73,14 +73,14 @@ module _ (x : Tables) (script : List ℕ) where
     sound (at r a) s = charged x script r a s _ (λ u. sound-act a r u)
 
     sound-act : (a : Act) (r : ℕ) (s : St) → Moves (Run x script (at r a) s (toll r + s.left)) (exec_act x a script r s)
-    sound-act null r s = ends (record { said = ε; does = d-null; sure = tt; sum = sum-none s.label; pays = refl; words = refl })
+    sound-act null r s = ends (record { said = ε; does = d_null; sure = tt; sum = sum-none s.label; pays = refl; words = refl })
     sound-act (assign is) r s = assigned x script is r r s
     sound-act (choose is e) r s = weaken (λ o u p. chose-run x script r p) (choosing-chose x script is e r s)
-    sound-act (reset vs) r s = ends (record { said = ε; does = d-reset; sure = tt; sum = sum-none s.label; pays = refl; words = refl })
+    sound-act (reset vs) r s = ends (record { said = ε; does = d_reset; sure = tt; sum = sum-none s.label; pays = refl; words = refl })
     sound-act (communicate g os) r s =
         if-rule (Moves (Run x script (at r (communicate g os)) s (toll r + s.left))) (spoken s.label) _ _ (λ e. stops)
         (λ e. weaken (λ o u p. spoke-run x script r e p) (offering-spoke x script g os [] r s))
-    sound-act (to q) r s = jumps (record { said = ε; does = d-to; sure = tt; sum = sum-none s.label; pays = refl; words = refl })
+    sound-act (to q) r s = jumps (record { said = ε; does = d_to; sure = tt; sum = sum-none s.label; pays = refl; words = refl })
     sound-act (then a b) r s =
         after (λ u. exec x b script u) (λ q u p. leave x script b r _ p refl) (λ u p. weaken (λ o w q. pair x script r _ p q (omega arith)) (sound b u)) (sound a s)
     sound-act (select bs) r s =

@@ -16,7 +16,7 @@ use Rattle.model.proofs.Rows.{Formed, Row, row_is, is-kind}
 use Rattle.model.proofs.Decode.{expression_at-is, pattern_at-is, action_at-is, list_at-step}
 use Rattle.model.proofs.Codes.{next-is}
 use Rattle.demands.specs.Common.{Every, one_more, none_left}
-use Rattle.demands.specs.Judgements.{HasType, t-unary, t-binary, PatType, t-guarded, OfferTyped, t-emit, t-receive, GetsTyped, WellTyped, TypedAct, t-assign, t-choose, t-quiet, t-communicate, t-then, t_select, t-case, t-while, t-for, TypedBranches, t-branch, TypedArms, t-arm, AutomatonTyped, TypedAs, RowTyped}
+use Rattle.demands.specs.Judgements.{HasType, t_unary, t_binary, PatType, t_guarded, OfferTyped, t_emit, t_receive, GetsTyped, WellTyped, TypedAct, t_assign, t_choose, t_quiet, t_communicate, t_then, t_select, t_case, t_while, t_for, TypedBranches, t_branch, TypedArms, t_arm, AutomatonTyped, TypedAs, RowTyped}
 use Rattle.demands.proofs.TypingRows.{act-in}
 use Rattle.demands.proofs.Kids.{Hands, everywhere}
 
@@ -46,74 +46,74 @@ module _ (x : Tables) where
 
   -- ---- the parts of a well-typed tree
   unary-in : {o : Unary} {e : Exp} {t : ℕ} → HasType x (unary o e) t → Typable e
-  unary-in (t-unary p h) = (_, h)
+  unary-in (t_unary p h) = (_, h)
 
   left_in : {o : Binary} {a b : Exp} {t : ℕ} → HasType x (binary o a b) t → Typable a
-  left_in (t-binary p h k) = (_, h)
+  left_in (t_binary p h k) = (_, h)
 
   right-in : {o : Binary} {a b : Exp} {t : ℕ} → HasType x (binary o a b) t → Typable b
-  right-in (t-binary p h k) = (_, k)
+  right-in (t_binary p h k) = (_, k)
 
   pattern-in : {p : Pat} {e : Exp} {t : ℕ} → PatType x (guarded p e) t → PatType x p t
-  pattern-in (t-guarded h k) = h
+  pattern-in (t_guarded h k) = h
 
   guard-in : {p : Pat} {e : Exp} {t : ℕ} → PatType x (guarded p e) t → HasType x e bool
-  guard-in (t-guarded h k) = k
+  guard-in (t_guarded h k) = k
 
   emit-in : {e : Exp} → OfferTyped x (emit e) → Typable e
-  emit-in (t-emit h) = (_, h)
+  emit-in (t_emit h) = (_, h)
 
   receive-in : {p : Pat} → OfferTyped x (receive p) → TypablePat p
-  receive-in (t-receive h) = (_, h)
+  receive-in (t_receive h) = (_, h)
 
   assign-in : {is : List Gets} → TypedAct x (assign is) → Every (GetsTyped x) is
-  assign-in (t-assign h) = h
+  assign-in (t_assign h) = h
 
   choose-in : {is : List OfType} {e : Exp} → TypedAct x (choose is e) → HasType x e bool
-  choose-in (t-choose h k) = h
+  choose-in (t_choose h k) = h
 
   offers-in : {g : Gate} {os : List Offer} → TypedAct x (communicate g os) → Every (OfferTyped x) os
-  offers-in t-quiet = none_left
-  offers-in (t-communicate f h) = h
+  offers-in t_quiet = none_left
+  offers-in (t_communicate f h) = h
 
   first-in : {a b : Action} → TypedAct x (then a b) → WellTyped x a
-  first-in (t-then h k) = h
+  first-in (t_then h k) = h
 
   second-in : {a b : Action} → TypedAct x (then a b) → WellTyped x b
-  second-in (t-then h k) = k
+  second-in (t_then h k) = k
 
   select_in : {bs : Branches} → TypedAct x (select bs) → TypedBranches x bs
   select_in (t_select h) = h
 
   subject-in : {e : Exp} {arms : Arms} → TypedAct x (case e arms) → Typable e
-  subject-in (t-case h k) = (_, h)
+  subject-in (t_case h k) = (_, h)
 
   arms-in : {e : Exp} {arms : Arms} → TypedAct x (case e arms) → (t : ℕ) × TypedArms x t arms
-  arms-in (t-case h k) = (_, k)
+  arms-in (t_case h k) = (_, k)
 
   test_in : {e : Exp} {a : Action} → TypedAct x (while e a) → HasType x e bool
-  test_in (t-while h k) = h
+  test_in (t_while h k) = h
 
   body-in : {e : Exp} {a : Action} → TypedAct x (while e a) → WellTyped x a
-  body-in (t-while h k) = k
+  body-in (t_while h k) = k
 
   for-in : {v : Variable} {low high : ℤ} {a : Action} → TypedAct x (for v low high a) → WellTyped x a
-  for-in (t-for h k) = k
+  for-in (t_for h k) = k
 
   branch_in : {a : Action} {bs : Branches} → TypedBranches x (a_branch a bs) → WellTyped x a
-  branch_in (t-branch h k) = h
+  branch_in (t_branch h k) = h
 
   branches-in : {a : Action} {bs : Branches} → TypedBranches x (a_branch a bs) → TypedBranches x bs
-  branches-in (t-branch h k) = k
+  branches-in (t_branch h k) = k
 
   arm-pattern : {t : ℕ} {p : Pat} {a : Action} {rest : Arms} → TypedArms x t (an_arm p a rest) → PatType x p t
-  arm-pattern (t-arm h k l) = h
+  arm-pattern (t_arm h k l) = h
 
   arm-action : {t : ℕ} {p : Pat} {a : Action} {rest : Arms} → TypedArms x t (an_arm p a rest) → WellTyped x a
-  arm-action (t-arm h k l) = k
+  arm-action (t_arm h k l) = k
 
   arm-rest : {t : ℕ} {p : Pat} {a : Action} {rest : Arms} → TypedArms x t (an_arm p a rest) → TypedArms x t rest
-  arm-rest (t-arm h k l) = l
+  arm-rest (t_arm h k l) = l
 
   -- ---- a row's tree, or the list that starts at it, is well typed
   unfoldable WellAs : ℕ → Means → Type 0

@@ -15,7 +15,7 @@ use Rattle.model.specs.Typing.{type_of_exp, type_of_pat, typed_exp, typed_pat, a
 use Rattle.model.proofs.Rows.{both_true, Named, Formed, row_is, is-kind}
 use Rattle.model.proofs.Decode.{expression_at-is, pattern_at-is, action_at-is, Listed, no_more, one-row, list_at-listed}
 use Rattle.demands.specs.Common.{Iff, Every, none_left, one_more}
-use Rattle.demands.specs.Judgements.{HasType, t-var, t-const, PatType, t-any, t-bind, t-equals, t-guarded, OfferTyped, t-emit, t-receive, WellTyped, t-at, TypedAct, t_null, t-reset, t-to, t-assign, t-choose, t-then, t_select, t-case, t-while, t-for, TypedBranches, t-no_branch, t-branch, TypedArms, t-no_arm, t-arm, TypedAs, RowTyped}
+use Rattle.demands.specs.Judgements.{HasType, t_var, t_const, PatType, t_any, t_bind, t_equals, t_guarded, OfferTyped, t_emit, t_receive, WellTyped, t_at, TypedAct, t_null, t_reset, t_to, t_assign, t_choose, t_then, t_select, t_case, t_while, t_for, TypedBranches, t_no_branch, t_branch, TypedArms, t_no_arm, t_arm, TypedAs, RowTyped}
 use Rattle.demands.proofs.Everys.{and_both, every_map, all-every, all-passes}
 use Rattle.demands.proofs.TypingTrees.{type-is, exp-passes, pat-passes, act-passes, as-type, as-pattern, unary-up, binary-up, offers-up}
 
@@ -31,7 +31,7 @@ lower p q =
     record { below = omega arith; kind = q.kind }
 
 pub act-in : {x : Tables} {a : Action} → WellTyped x a → TypedAct x (act_of a)
-act-in (t-at h) = h
+act-in (t_at h) = h
 
 module _ (x : Tables) (ok : Formed x) where
   pub named-every : (m : ℕ) (k : Kind) (l : List ℕ) → Listed x ok m k l → Every (Named x m k) l
@@ -59,8 +59,8 @@ module _ (x : Tables) (ok : Formed x) where
 
     exp-up : (m : ExpressionRow) → means_at x r ≡ an_expression m → typed_exp x (expression_at x r) ≡ true → Typable (expression_at x r)
     unfolding grow_expression
-    exp-up is_variable e t = subst Typable (sym (expression_at-is x ok r _ e)) (_, t-var)
-    exp-up is_constant e t = subst Typable (sym (expression_at-is x ok r _ e)) (_, t-const)
+    exp-up is_variable e t = subst Typable (sym (expression_at-is x ok r _ e)) (_, t_var)
+    exp-up is_constant e t = subst Typable (sym (expression_at-is x ok r _ e)) (_, t_const)
     exp-up (is_unary o) e t =
         let q = row_is x ok r _ e in
         let g = expression_at-is x ok r _ e in
@@ -72,14 +72,14 @@ module _ (x : Tables) (ok : Formed x) where
 
     pat-up : (m : PatternRow) → means_at x r ≡ a_pattern m → typed_pat x (pattern_at x r) ≡ true → TypablePat (pattern_at x r)
     unfolding grow_pattern typed_pat
-    pat-up is_any e t = subst TypablePat (sym (pattern_at-is x ok r _ e)) (_, t-any)
-    pat-up is_bind e t = subst TypablePat (sym (pattern_at-is x ok r _ e)) (_, t-bind)
-    pat-up is_value e t = subst TypablePat (sym (pattern_at-is x ok r _ e)) (_, t-equals)
+    pat-up is_any e t = subst TypablePat (sym (pattern_at-is x ok r _ e)) (_, t_any)
+    pat-up is_bind e t = subst TypablePat (sym (pattern_at-is x ok r _ e)) (_, t_bind)
+    pat-up is_value e t = subst TypablePat (sym (pattern_at-is x ok r _ e)) (_, t_equals)
     pat-up is_where e t =
         let q = row_is x ok r _ e in
         let g = pattern_at-is x ok r _ e in
         subst TypablePat (sym g)
-        (_, t-guarded (lower-pat q.a).1 (as-type x bool (lower-exp q.b).1 (eqb-true _ _ (subst (λ (d : Pat). typed_pat x d ≡ true) g t))))
+        (_, t_guarded (lower-pat q.a).1 (as-type x bool (lower-exp q.b).1 (eqb-true _ _ (subst (λ (d : Pat). typed_pat x d ≡ true) g t))))
 
     gets-up : (n : ℕ) → Named x r gets n → Every (λ i. Typable i.e) (gets_at x n)
     gets-up n p =
@@ -87,8 +87,8 @@ module _ (x : Tables) (ok : Formed x) where
 
     offer-up : (i : ℕ) (m : OfferRow) → Named x r offer i → means_at x i ≡ an_offer m → OfferTyped x (offer_of x (fields_of x i) (an_offer m))
     unfolding offer_of
-    offer-up i is_emit k e = t-emit (lower-exp (lower k (row_is x ok i _ e).a)).1
-    offer-up i is_receive k e = t-receive (lower-pat (lower k (row_is x ok i _ e).a)).1
+    offer-up i is_emit k e = t_emit (lower-exp (lower k (row_is x ok i _ e).a)).1
+    offer-up i is_receive k e = t_receive (lower-pat (lower k (row_is x ok i _ e).a)).1
 
     all-offers : (n : ℕ) → (n ≡ none) ⊎ Named x r offer n → Every (OfferTyped x) (offers_at x n)
     all-offers n p =
@@ -98,20 +98,20 @@ module _ (x : Tables) (ok : Formed x) where
 
     branches-up : (l : List ℕ) → Every (Named x r branch) l → TypedBranches x (branches_of x (action_at x) l)
     unfolding branches_of
-    branches-up [] none_left = t-no_branch
+    branches-up [] none_left = t_no_branch
     branches-up (i ∷ l) (one_more p q) =
-        t-branch (lower-act (lower p (row_is x ok i _ (is-kind x branch i p.kind)).a)) (branches-up l q)
+        t_branch (lower-act (lower p (row_is x ok i _ (is-kind x branch i p.kind)).a)) (branches-up l q)
 
     arms_up : (t : ℕ) (l : List ℕ) → Every (Named x r arm) l → arms_of_type x t (arms_of x (action_at x) l) ≡ true → TypedArms x t (arms_of x (action_at x) l)
     unfolding arms_of arms_of_type
-    arms_up t [] none_left e = t-no_arm
+    arms_up t [] none_left e = t_no_arm
     arms_up t (i ∷ l) (one_more p q) e =
         let w = row_is x ok i _ (is-kind x arm i p.kind) in
         let h = both_true (eqb (type_of_pat x (pattern_at x (fields_of x i).a)) t) _ e in
-        t-arm (as-pattern x t (lower-pat (lower p w.a)).1 (eqb-true _ t h.0)) (lower-act (lower p w.b)) (arms_up t l q h.1)
+        t_arm (as-pattern x t (lower-pat (lower p w.a)).1 (eqb-true _ t h.0)) (lower-act (lower p w.b)) (arms_up t l q h.1)
 
     condition-up : (n : ℕ) → (n ≡ none) ⊎ Named x r expression n → (t : Bool) → eqb n none ≡ t → Typable (elim t [ true ↦ always | false ↦ expression_at x n ])
-    condition-up n p true e = (_, t-const)
+    condition-up n p true e = (_, t_const)
     condition-up n (inl q) false e = absurd (eqb-false n none e q)
     condition-up n (inr q) false e = lower-exp q
 
@@ -120,27 +120,27 @@ module _ (x : Tables) (ok : Formed x) where
     unfolding grow_action typed_act condition_at
     act-up is_null e t = t_null
     act-up is_assign e t =
-        t-assign (all-every _ _ (λ i h q. as-type x (type_of x i.v) h.1 (eqb-true _ _ q)) (gets-up _ (row_is x ok r _ e).a.0) t)
+        t_assign (all-every _ _ (λ i h q. as-type x (type_of x i.v) h.1 (eqb-true _ _ q)) (gets-up _ (row_is x ok r _ e).a.0) t)
     act-up is_choose e t =
         let n = (fields_of x r).b in
         let b = both_true (all (λ i. eqb (type_of x i.v) i.t) (of_types_at x (fields_of x r).a)) _ t in
-        t-choose (as-type x bool (condition-up n (row_is x ok r _ e).b (eqb n none) refl).1 (eqb-true _ _ b.1))
+        t_choose (as-type x bool (condition-up n (row_is x ok r _ e).b (eqb n none) refl).1 (eqb-true _ _ b.1))
         (all-passes _ _ (λ i q. eqb-true (type_of x i.v) i.t q) b.0)
-    act-up is_reset e t = t-reset
+    act-up is_reset e t = t_reset
     act-up is_communicate e t = offers-up x _ _ (all-offers _ (listed (row_is x ok r _ e).b)) t
-    act-up is_to e t = t-to
-    act-up is_then e t = let q = row_is x ok r _ e in t-then (lower-act q.a) (lower-act q.b)
+    act-up is_to e t = t_to
+    act-up is_then e t = let q = row_is x ok r _ e in t_then (lower-act q.a) (lower-act q.b)
     act-up is_select e t = t_select (branches-up _ (list-every _ r branch (listed (row_is x ok r _ e).a)))
     act-up is_case e t =
         let q = row_is x ok r _ e in
-        t-case (as-type x _ (lower-exp q.a).1 refl) (arms_up _ _ (list-every _ r arm (listed q.b)) t)
-    act-up is_while e t = let q = row_is x ok r _ e in t-while (as-type x bool (lower-exp q.a).1 (eqb-true _ _ t)) (lower-act q.b)
-    act-up is_for e t = t-for (eqb-true _ int t) (lower-act (row_is x ok r _ e).b)
+        t_case (as-type x _ (lower-exp q.a).1 refl) (arms_up _ _ (list-every _ r arm (listed q.b)) t)
+    act-up is_while e t = let q = row_is x ok r _ e in t_while (as-type x bool (lower-exp q.a).1 (eqb-true _ _ t)) (lower-act q.b)
+    act-up is_for e t = t_for (eqb-true _ int t) (lower-act (row_is x ok r _ e).b)
 
     action-up : (m : ActionRow) → means_at x r ≡ an_action m → typed_act x (act_of (action_at x r)) ≡ true → WellTyped x (action_at x r)
     action-up m e t =
         let g = action_at-is x ok r _ e in
-        subst (WellTyped x) (sym g) (t-at (act-up m e (subst (λ (d : Action). typed_act x (act_of d) ≡ true) g t)))
+        subst (WellTyped x) (sym g) (t_at (act-up m e (subst (λ (d : Action). typed_act x (act_of d) ≡ true) g t)))
 
     -- the row's own test
     rule : Means → Bool

@@ -16,12 +16,12 @@ pub data Every {A : Type 0} (P : A → Type 0) : List A → Type 0 where
   one_more : {a : A} {l : List A} → P a → Every P l → Every P (a ∷ l)
 
 pub data Pairwise {A : Type 0} (R : A → A → Type 0) : List A → Type 0 where
-  no-pair : Pairwise R []
-  more-pairs : {a : A} {l : List A} → Every (λ b. R a b) l → Pairwise R l → Pairwise R (a ∷ l)
+  no_pair : Pairwise R []
+  more_pairs : {a : A} {l : List A} → Every (λ b. R a b) l → Pairwise R l → Pairwise R (a ∷ l)
 
 pub data Some {A : Type 0} (P : A → Type 0) : List A → Type 0 where
-  s-here : {a : A} {l : List A} → P a → Some P (a ∷ l)
-  s-later : {a : A} {l : List A} → Some P l → Some P (a ∷ l)
+  s_here : {a : A} {l : List A} → P a → Some P (a ∷ l)
+  s_later : {a : A} {l : List A} → Some P l → Some P (a ∷ l)
 
 -- "Lowest place first": the lowest of n places at which P doesn't hold
 pub record Lowest (P : ℕ → Type 0) (n r : ℕ) : Type 0 where

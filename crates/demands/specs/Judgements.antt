@@ -16,34 +16,34 @@ use Rattle.demands.specs.Common.{Iff, Every, Pairwise, Some, Lowest}
 
 -- prototypes of the function symbols
 pub data Takes1 : Unary → ℕ → ℕ → Type 0 where
-  p-not : Takes1 Not bool bool
-  p-negate : Takes1 Negate int int
+  p_not : Takes1 Not bool bool
+  p_negate : Takes1 Negate int int
 
 pub data Takes2 : Binary → ℕ → ℕ → ℕ → Type 0 where
-  p-logic : {o : Logic} → Takes2 (logic o) bool bool bool
-  p-arithmetic : {o : Arithmetic} → Takes2 (arithmetic o) int int int
-  p-equal : {t : ℕ} → Takes2 (comparison Equal) t t bool
-  p-less : Takes2 (comparison Less) int int bool
-  p-at_most : Takes2 (comparison AtMost) int int bool
+  p_logic : {o : Logic} → Takes2 (logic o) bool bool bool
+  p_arithmetic : {o : Arithmetic} → Takes2 (arithmetic o) int int int
+  p_equal : {t : ℕ} → Takes2 (comparison Equal) t t bool
+  p_less : Takes2 (comparison Less) int int bool
+  p_at_most : Takes2 (comparison AtMost) int int bool
 
 -- type(E) = T
 pub data HasType (x : Tables) : Exp → ℕ → Type 0 where
-  t-var : {v : Variable} → HasType x (var v) (type_of x v)
-  t-const : {t : ℕ} {z : ℤ} → HasType x (const t z) t
-  t-unary : {o : Unary} {s t : ℕ} {e : Exp} → Takes1 o s t → HasType x e s → HasType x (unary o e) t
-  t-binary : {o : Binary} {s u t : ℕ} {a b : Exp} → Takes2 o s u t → HasType x a s → HasType x b u → HasType x (binary o a b) t
+  t_var : {v : Variable} → HasType x (var v) (type_of x v)
+  t_const : {t : ℕ} {z : ℤ} → HasType x (const t z) t
+  t_unary : {o : Unary} {s t : ℕ} {e : Exp} → Takes1 o s t → HasType x e s → HasType x (unary o e) t
+  t_binary : {o : Binary} {s u t : ℕ} {a b : Exp} → Takes2 o s u t → HasType x a s → HasType x b u → HasType x (binary o a b) t
 
 -- type(P) = T
 pub data PatType (x : Tables) : Pat → ℕ → Type 0 where
-  t-any : {t : ℕ} → PatType x (any t) t
-  t-bind : {v : Variable} → PatType x (bind v) (type_of x v)
-  t-equals : {t : ℕ} {z : ℤ} → PatType x (equals t z) t
-  t-guarded : {t : ℕ} {p : Pat} {e : Exp} → PatType x p t → HasType x e bool → PatType x (guarded p e) t
+  t_any : {t : ℕ} → PatType x (any t) t
+  t_bind : {v : Variable} → PatType x (bind v) (type_of x v)
+  t_equals : {t : ℕ} {z : ℤ} → PatType x (equals t z) t
+  t_guarded : {t : ℕ} {p : Pat} {e : Exp} → PatType x p t → HasType x e bool → PatType x (guarded p e) t
 
 -- type(E), type(P) of an offer is defined
 pub data OfferTyped (x : Tables) : Offer → Type 0 where
-  t-emit : {e : Exp} {t : ℕ} → HasType x e t → OfferTyped x (emit e)
-  t-receive : {p : Pat} {t : ℕ} → PatType x p t → OfferTyped x (receive p)
+  t_emit : {e : Exp} {t : ℕ} → HasType x e t → OfferTyped x (emit e)
+  t_receive : {p : Pat} {t : ℕ} → PatType x p t → OfferTyped x (receive p)
 
 abbrev pub GetsTyped : Tables → Gets → Type 0
 GetsTyped x i = HasType x i.e (type_of x i.v)
@@ -53,96 +53,96 @@ OfTypeTyped x i = type_of x i.v ≡ i.t
 
 mutual
   pub data WellTyped (x : Tables) : Action → Type 0 where
-    t-at : {r : ℕ} {a : Act} → TypedAct x a → WellTyped x (at r a)
+    t_at : {r : ℕ} {a : Act} → TypedAct x a → WellTyped x (at r a)
 
   pub data TypedAct (x : Tables) : Act → Type 0 where
     t_null : TypedAct x null
-    t-reset : {vs : List Variable} → TypedAct x (reset vs)
-    t-to : {q : State} → TypedAct x (to q)
-    t-assign : {is : List Gets} → Every (GetsTyped x) is → TypedAct x (assign is)
-    t-choose : {is : List OfType} {e : Exp} → HasType x e bool → Every (OfTypeTyped x) is → TypedAct x (choose is e)
+    t_reset : {vs : List Variable} → TypedAct x (reset vs)
+    t_to : {q : State} → TypedAct x (to q)
+    t_assign : {is : List Gets} → Every (GetsTyped x) is → TypedAct x (assign is)
+    t_choose : {is : List OfType} {e : Exp} → HasType x e bool → Every (OfTypeTyped x) is → TypedAct x (choose is e)
     -- "τ has no offers": a gate with offers isn't τ, gate 0
-    t-quiet : {g : Gate} → TypedAct x (communicate g [])
-    t-communicate : {g : Gate} {o : Offer} {os : List Offer} → (g.0 ≡ 0 → ⊥) → Every (OfferTyped x) (o ∷ os) → TypedAct x (communicate g (o ∷ os))
-    t-then : {a b : Action} → WellTyped x a → WellTyped x b → TypedAct x (then a b)
+    t_quiet : {g : Gate} → TypedAct x (communicate g [])
+    t_communicate : {g : Gate} {o : Offer} {os : List Offer} → (g.0 ≡ 0 → ⊥) → Every (OfferTyped x) (o ∷ os) → TypedAct x (communicate g (o ∷ os))
+    t_then : {a b : Action} → WellTyped x a → WellTyped x b → TypedAct x (then a b)
     t_select : {bs : Branches} → TypedBranches x bs → TypedAct x (select bs)
-    t-case : {e : Exp} {t : ℕ} {arms : Arms} → HasType x e t → TypedArms x t arms → TypedAct x (case e arms)
-    t-while : {e : Exp} {a : Action} → HasType x e bool → WellTyped x a → TypedAct x (while e a)
+    t_case : {e : Exp} {t : ℕ} {arms : Arms} → HasType x e t → TypedArms x t arms → TypedAct x (case e arms)
+    t_while : {e : Exp} {a : Action} → HasType x e bool → WellTyped x a → TypedAct x (while e a)
     -- "A range's variable is int"
-    t-for : {v : Variable} {low high : ℤ} {a : Action} → type_of x v ≡ int → WellTyped x a → TypedAct x (for v low high a)
+    t_for : {v : Variable} {low high : ℤ} {a : Action} → type_of x v ≡ int → WellTyped x a → TypedAct x (for v low high a)
 
   pub data TypedBranches (x : Tables) : Branches → Type 0 where
-    t-no_branch : TypedBranches x no_branch
-    t-branch : {a : Action} {bs : Branches} → WellTyped x a → TypedBranches x bs → TypedBranches x (branch a bs)
+    t_no_branch : TypedBranches x no_branch
+    t_branch : {a : Action} {bs : Branches} → WellTyped x a → TypedBranches x bs → TypedBranches x (branch a bs)
 
   pub data TypedArms (x : Tables) : ℕ → Arms → Type 0 where
-    t-no_arm : {t : ℕ} → TypedArms x t no_arm
-    t-arm : {t : ℕ} {p : Pat} {a : Action} {rest : Arms} → PatType x p t → WellTyped x a → TypedArms x t rest → TypedArms x t (arm p a rest)
+    t_no_arm : {t : ℕ} → TypedArms x t no_arm
+    t_arm : {t : ℕ} {p : Pat} {a : Action} {rest : Arms} → PatType x p t → WellTyped x a → TypedArms x t rest → TypedArms x t (arm p a rest)
 
 -- ---- A.1 Binding
 
 -- V ∈ use(E)
 pub data UsedIn (v : Variable) : Exp → Type 0 where
-  u-var : UsedIn v (var v)
-  u-unary : {o : Unary} {e : Exp} → UsedIn v e → UsedIn v (unary o e)
-  u-left : {o : Binary} {a b : Exp} → UsedIn v a → UsedIn v (binary o a b)
-  u-right : {o : Binary} {a b : Exp} → UsedIn v b → UsedIn v (binary o a b)
+  u_var : UsedIn v (var v)
+  u_unary : {o : Unary} {e : Exp} → UsedIn v e → UsedIn v (unary o e)
+  u_left : {o : Binary} {a b : Exp} → UsedIn v a → UsedIn v (binary o a b)
+  u_right : {o : Binary} {a b : Exp} → UsedIn v b → UsedIn v (binary o a b)
 
 -- V ∈ def(P)
 pub data DefinedIn (v : Variable) : Pat → Type 0 where
-  d-bind : DefinedIn v (bind v)
-  d-guarded : {p : Pat} {e : Exp} → DefinedIn v p → DefinedIn v (guarded p e)
+  d_bind : DefinedIn v (bind v)
+  d_guarded : {p : Pat} {e : Exp} → DefinedIn v p → DefinedIn v (guarded p e)
 
 -- V ∈ use(P): use(P where E) = (use(E) \ def(P)) ∪ use(P)
 pub data UsedInPat (v : Variable) : Pat → Type 0 where
-  u-guard : {p : Pat} {e : Exp} → UsedIn v e → (DefinedIn v p → ⊥) → UsedInPat v (guarded p e)
-  u-inner : {p : Pat} {e : Exp} → UsedInPat v p → UsedInPat v (guarded p e)
+  u_guard : {p : Pat} {e : Exp} → UsedIn v e → (DefinedIn v p → ⊥) → UsedInPat v (guarded p e)
+  u_inner : {p : Pat} {e : Exp} → UsedInPat v p → UsedInPat v (guarded p e)
 
 -- V ∈ use(O), V ∈ def(O)
 pub data UsedInOffer (v : Variable) : Offer → Type 0 where
-  u-emit : {e : Exp} → UsedIn v e → UsedInOffer v (emit e)
-  u-receive : {p : Pat} → UsedInPat v p → UsedInOffer v (receive p)
+  u_emit : {e : Exp} → UsedIn v e → UsedInOffer v (emit e)
+  u_receive : {p : Pat} → UsedInPat v p → UsedInOffer v (receive p)
 
 pub data DefinedInOffer (v : Variable) : Offer → Type 0 where
-  d-receive : {p : Pat} → DefinedIn v p → DefinedInOffer v (receive p)
+  d_receive : {p : Pat} → DefinedIn v p → DefinedInOffer v (receive p)
 
 -- V is defined or reset somewhere in the action (01: the body of a for)
 mutual
   pub data Touched (v : Variable) : Action → Type 0 where
-    h-at : {r : ℕ} {a : Act} → TouchedAct v a → Touched v (at r a)
+    h_at : {r : ℕ} {a : Act} → TouchedAct v a → Touched v (at r a)
 
   pub data TouchedAct (v : Variable) : Act → Type 0 where
-    h-assign : {is : List Gets} → Some (λ i. v ≡ i.v) is → TouchedAct v (assign is)
-    h-choose : {is : List OfType} {e : Exp} → Some (λ i. v ≡ i.v) is → TouchedAct v (choose is e)
-    h-reset : {vs : List Variable} → Some (λ u. v ≡ u) vs → TouchedAct v (reset vs)
-    h-communicate : {g : Gate} {os : List Offer} → Some (DefinedInOffer v) os → TouchedAct v (communicate g os)
-    h-first : {a b : Action} → Touched v a → TouchedAct v (then a b)
-    h-second : {a b : Action} → Touched v b → TouchedAct v (then a b)
-    h-select : {bs : Branches} → TouchedBranches v bs → TouchedAct v (select bs)
-    h-case : {e : Exp} {arms : Arms} → TouchedArms v arms → TouchedAct v (case e arms)
-    h-while : {e : Exp} {a : Action} → Touched v a → TouchedAct v (while e a)
-    h-range : {low high : ℤ} {a : Action} → TouchedAct v (for v low high a)
-    h-for : {u : Variable} {low high : ℤ} {a : Action} → Touched v a → TouchedAct v (for u low high a)
+    h_assign : {is : List Gets} → Some (λ i. v ≡ i.v) is → TouchedAct v (assign is)
+    h_choose : {is : List OfType} {e : Exp} → Some (λ i. v ≡ i.v) is → TouchedAct v (choose is e)
+    h_reset : {vs : List Variable} → Some (λ u. v ≡ u) vs → TouchedAct v (reset vs)
+    h_communicate : {g : Gate} {os : List Offer} → Some (DefinedInOffer v) os → TouchedAct v (communicate g os)
+    h_first : {a b : Action} → Touched v a → TouchedAct v (then a b)
+    h_second : {a b : Action} → Touched v b → TouchedAct v (then a b)
+    h_select : {bs : Branches} → TouchedBranches v bs → TouchedAct v (select bs)
+    h_case : {e : Exp} {arms : Arms} → TouchedArms v arms → TouchedAct v (case e arms)
+    h_while : {e : Exp} {a : Action} → Touched v a → TouchedAct v (while e a)
+    h_range : {low high : ℤ} {a : Action} → TouchedAct v (for v low high a)
+    h_for : {u : Variable} {low high : ℤ} {a : Action} → Touched v a → TouchedAct v (for u low high a)
 
   pub data TouchedBranches (v : Variable) : Branches → Type 0 where
-    h-branch : {a : Action} {bs : Branches} → Touched v a → TouchedBranches v (branch a bs)
-    h-branches : {a : Action} {bs : Branches} → TouchedBranches v bs → TouchedBranches v (branch a bs)
+    h_branch : {a : Action} {bs : Branches} → Touched v a → TouchedBranches v (branch a bs)
+    h_branches : {a : Action} {bs : Branches} → TouchedBranches v bs → TouchedBranches v (branch a bs)
 
   pub data TouchedArms (v : Variable) : Arms → Type 0 where
-    h-pattern : {p : Pat} {a : Action} {rest : Arms} → DefinedIn v p → TouchedArms v (arm p a rest)
-    h-arm : {p : Pat} {a : Action} {rest : Arms} → Touched v a → TouchedArms v (arm p a rest)
-    h-arms : {p : Pat} {a : Action} {rest : Arms} → TouchedArms v rest → TouchedArms v (arm p a rest)
+    h_pattern : {p : Pat} {a : Action} {rest : Arms} → DefinedIn v p → TouchedArms v (arm p a rest)
+    h_arm : {p : Pat} {a : Action} {rest : Arms} → Touched v a → TouchedArms v (arm p a rest)
+    h_arms : {p : Pat} {a : Action} {rest : Arms} → TouchedArms v rest → TouchedArms v (arm p a rest)
 
 -- a pattern is well-bound; a constant is a constructor without arguments
 pub data BoundPat : Pat → Type 0 where
-  b-any : {t : ℕ} → BoundPat (any t)
-  b-bind : {v : Variable} → BoundPat (bind v)
-  b-equals : {t : ℕ} {z : ℤ} → BoundPat (equals t z)
-  b-guarded : {p : Pat} {e : Exp} → BoundPat p → BoundPat (guarded p e)
+  b_any : {t : ℕ} → BoundPat (any t)
+  b_bind : {v : Variable} → BoundPat (bind v)
+  b_equals : {t : ℕ} {z : ℤ} → BoundPat (equals t z)
+  b_guarded : {p : Pat} {e : Exp} → BoundPat p → BoundPat (guarded p e)
 
 pub data BoundOffer : Offer → Type 0 where
-  b-emit : {e : Exp} → BoundOffer (emit e)
-  b-receive : {p : Pat} → BoundPat p → BoundOffer (receive p)
+  b_emit : {e : Exp} → BoundOffer (emit e)
+  b_receive : {p : Pat} → BoundPat p → BoundOffer (receive p)
 
 -- O before O': def(O) ∩ def(O') = ∅ and def(O') ∩ use(O) = ∅
 pub record InTurn (o p : Offer) : Type 0 where
@@ -154,26 +154,26 @@ mutual
     b_at : {r : ℕ} {a : Act} → BoundAct a → WellBound (at r a)
 
   pub data BoundAct : Act → Type 0 where
-    b-null : BoundAct null
-    b-to : {q : State} → BoundAct (to q)
-    b-reset : {vs : List Variable} → Pairwise (λ u v. u ≡ v → ⊥) vs → BoundAct (reset vs)
-    b-assign : {is : List Gets} → Pairwise (λ i j. i.v ≡ j.v → ⊥) is → BoundAct (assign is)
-    b-choose : {is : List OfType} {e : Exp} → Pairwise (λ i j. i.v ≡ j.v → ⊥) is → BoundAct (choose is e)
-    b-communicate : {g : Gate} {os : List Offer} → Every BoundOffer os → Pairwise InTurn os → BoundAct (communicate g os)
+    b_null : BoundAct null
+    b_to : {q : State} → BoundAct (to q)
+    b_reset : {vs : List Variable} → Pairwise (λ u v. u ≡ v → ⊥) vs → BoundAct (reset vs)
+    b_assign : {is : List Gets} → Pairwise (λ i j. i.v ≡ j.v → ⊥) is → BoundAct (assign is)
+    b_choose : {is : List OfType} {e : Exp} → Pairwise (λ i j. i.v ≡ j.v → ⊥) is → BoundAct (choose is e)
+    b_communicate : {g : Gate} {os : List Offer} → Every BoundOffer os → Pairwise InTurn os → BoundAct (communicate g os)
     b_then : {a b : Action} → WellBound a → WellBound b → BoundAct (then a b)
-    b-select : {bs : Branches} → BoundBranches bs → BoundAct (select bs)
-    b-case : {e : Exp} {arms : Arms} → BoundArms arms → BoundAct (case e arms)
-    b-while : {e : Exp} {a : Action} → WellBound a → BoundAct (while e a)
+    b_select : {bs : Branches} → BoundBranches bs → BoundAct (select bs)
+    b_case : {e : Exp} {arms : Arms} → BoundArms arms → BoundAct (case e arms)
+    b_while : {e : Exp} {a : Action} → WellBound a → BoundAct (while e a)
     -- "the body of a for may not define or reset its variable"
-    b-for : {v : Variable} {low high : ℤ} {a : Action} → (Touched v a → ⊥) → WellBound a → BoundAct (for v low high a)
+    b_for : {v : Variable} {low high : ℤ} {a : Action} → (Touched v a → ⊥) → WellBound a → BoundAct (for v low high a)
 
   pub data BoundBranches : Branches → Type 0 where
-    b-no_branch : BoundBranches no_branch
-    b-branch : {a : Action} {bs : Branches} → WellBound a → BoundBranches bs → BoundBranches (branch a bs)
+    b_no_branch : BoundBranches no_branch
+    b_branch : {a : Action} {bs : Branches} → WellBound a → BoundBranches bs → BoundBranches (branch a bs)
 
   pub data BoundArms : Arms → Type 0 where
-    b-no_arm : BoundArms no_arm
-    b-arm : {p : Pat} {a : Action} {rest : Arms} → BoundPat p → WellBound a → BoundArms rest → BoundArms (arm p a rest)
+    b_no_arm : BoundArms no_arm
+    b_arm : {p : Pat} {a : Action} {rest : Arms} → BoundPat p → WellBound a → BoundArms rest → BoundArms (arm p a rest)
 
 -- use(E) ⊆ X: only parameters are read
 abbrev pub ReadsParameters : Tables → Exp → Type 0

@@ -42,7 +42,7 @@ module _ {s : List ℕ} {rows r : ℕ} {m : List ℤ} (h : Runs expression s row
     constant_number {z} p c f = as_number (constant-way h e c (held-is z p ∙ f))
 
     pub an-operator : (w.code ≡ 1 → ⊥) → (w.code ≡ 2 → ⊥) → Applies s rows r m
-    an-operator f g = record { runs = h; not-variable = λ c. f (ap (λ (k : Fields). k.code) e ∙ c); not-constant = λ c. g (ap (λ (k : Fields). k.code) e ∙ c) }
+    an-operator f g = record { runs = h; not_variable = λ c. f (ap (λ (k : Fields). k.code) e ∙ c); not_constant = λ c. g (ap (λ (k : Fields). k.code) e ∙ c) }
 
 -- a number that an operand gave
 module _ {s : List ℕ} {rows r : ℕ} {m : List ℤ} (h : Runs expression s rows r m) (y : ℤ) (p : mag y < 2 ^ 31) (f : value_of y ≡ eval (tables_of s) (expression_at (tables_of s) r) m) where
@@ -56,11 +56,11 @@ module _ {s : List ℕ} {rows r : ℕ} {m : List ℤ} (h : Runs expression s row
   number_small k = eval-small h (held y) (number-known k)
 
 module _ {s : List ℕ} {rows r : ℕ} {m : List ℤ} (h : Applies s rows r m) {w : Fields} (e : w ≡ fields_of (tables_of s) r) where
-  not-variable : w.code ≡ 1 → ⊥
-  not-variable c = h.not-variable (ap (λ (f : Fields). f.code) (sym e) ∙ c)
+  not_variable : w.code ≡ 1 → ⊥
+  not_variable c = h.not_variable (ap (λ (f : Fields). f.code) (sym e) ∙ c)
 
-  not-constant : w.code ≡ 2 → ⊥
-  not-constant c = h.not-constant (ap (λ (f : Fields). f.code) (sym e) ∙ c)
+  not_constant : w.code ≡ 2 → ⊥
+  not_constant c = h.not_constant (ap (λ (f : Fields). f.code) (sym e) ∙ c)
 
   kind-of : OneOf (16 ∷ 19 ∷ []) w.code ⊎ (OneOf (16 ∷ 19 ∷ []) w.code → ⊥)
   kind-of = go (eqb w.code 16) refl (eqb w.code 19) refl
@@ -79,10 +79,10 @@ module _ {s : List ℕ} {rows r : ℕ} {m : List ℤ} (h : Applies s rows r m) {
     where
       go : OneOf (16 ∷ 19 ∷ []) w.code ⊎ (OneOf (16 ∷ 19 ∷ []) w.code → ⊥) → (w.a < r) × Runs expression s rows w.a m
       go (inl o) = operand h.runs e o
-      go (inr k) = (operands h.runs e not-variable not-constant k).0
+      go (inr k) = (operands h.runs e not_variable not_constant k).0
 
   pub second : (OneOf (16 ∷ 19 ∷ []) w.code → ⊥) → (w.b < r) × Runs expression s rows w.b m
-  second k = (operands h.runs e not-variable not-constant k).1
+  second k = (operands h.runs e not_variable not_constant k).1
 
   module _ (y : ℤ) (p : mag y < 2 ^ 31) (f : value_of y ≡ eval (tables_of s) (expression_at (tables_of s) w.a) m) where
     pub first-unknown : of_z w32 y ≡ 65536 → value_of (pos 65536) ≡ eval (tables_of s) (expression_at (tables_of s) r) m
@@ -91,7 +91,7 @@ module _ {s : List ℕ} {rows r : ℕ} {m : List ℤ} (h : Applies s rows r m) {
       where
         go : OneOf (16 ∷ 19 ∷ []) w.code ⊎ (OneOf (16 ∷ 19 ∷ []) w.code → ⊥) → Unknown ≡ eval (tables_of s) (expression_at (tables_of s) r) m
         go (inl o) = unary-unknown h.runs e o refl (number-unknown first.1 y p f k)
-        go (inr n) = left-unknown h.runs e not-variable not-constant n refl (number-unknown first.1 y p f k)
+        go (inr n) = left-unknown h.runs e not_variable not_constant n refl (number-unknown first.1 y p f k)
 
     pub first_small : (of_z w32 y ≡ 65536 → ⊥) → mag (held y) < 32768
     first_small k = number_small first.1 y p f k
@@ -105,7 +105,7 @@ module _ {s : List ℕ} {rows r : ℕ} {m : List ℤ} (h : Applies s rows r m) {
       pub second-unknown : of_z w32 x ≡ 65536 → value_of (pos 65536) ≡ eval (tables_of s) (expression_at (tables_of s) r) m
       unfolding value_of
       second-unknown u =
-          right-unknown h.runs e not-variable not-constant n refl (number-known first.1 y p f k) refl (number-unknown (second n).1 x q g u)
+          right-unknown h.runs e not_variable not_constant n refl (number-known first.1 y p f k) refl (number-unknown (second n).1 x q g u)
 
       pub second-small : (of_z w32 x ≡ 65536 → ⊥) → mag (held x) < 32768
       second-small u = number_small (second n).1 x q g u
@@ -114,7 +114,7 @@ module _ {s : List ℕ} {rows r : ℕ} {m : List ℤ} (h : Applies s rows r m) {
           → value_of (held z) ≡ eval (tables_of s) (expression_at (tables_of s) r) m
       binary-number {z} u i j =
           as_number h.runs
-          (binary-way h.runs e not-variable not-constant n refl (number-known first.1 y p f k) refl (number-known (second n).1 x q g u) (held-is z i ∙ j))
+          (binary-way h.runs e not_variable not_constant n refl (number-known first.1 y p f k) refl (number-known (second n).1 x q g u) (held-is z i ∙ j))
 
 -- a slice made anew
 pub whole : {A : Type 0} (l : List A) → take (length l - 0) l ≡ l

@@ -30,5 +30,5 @@ pub record Runs (k : Kind) (s : List ℕ) (rows r : ℕ) (m : List ℤ) : Type 0
 -- and an operator's row: neither a variable's nor a constant's
 pub record Applies (s : List ℕ) (rows r : ℕ) (m : List ℤ) : Type 0 where
   pub runs : Runs expression s rows r m
-  pub not-variable : (fields_of (tables_of s) r).code ≡ 1 → ⊥
-  pub not-constant : (fields_of (tables_of s) r).code ≡ 2 → ⊥
+  pub not_variable : (fields_of (tables_of s) r).code ≡ 1 → ⊥
+  pub not_constant : (fields_of (tables_of s) r).code ≡ 2 → ⊥

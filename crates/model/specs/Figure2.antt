@@ -44,7 +44,7 @@ MayTake x (receive p) z = OfThe x (type_of_pat x p) z
 
 -- accept(v_i, ρ_i, O_i) = ρ_{i+1} ≠ fail, for each i
 pub data Accepts (x : Tables) : List Offer → List ℤ → List ℤ → List ℤ → Type 0 where
-  all-run : {m : List ℤ} → Accepts x [] [] m m
+  all_run : {m : List ℤ} → Accepts x [] [] m m
   runs : {o : Offer} {os : List Offer} {z : ℤ} {zs m n k : List ℤ} → MayTake x o z → accept x z m o ≡ found n
       → Accepts x os zs n k → Accepts x (o ∷ os) (z ∷ zs) m k
 
@@ -96,25 +96,25 @@ expansion r v low high a =
 
 -- [A], ρ ⇒ s, ρ' with label ℓ
 pub data Does (x : Tables) : Action → List ℤ → Label → Next → List ℤ → Type 0 where
-  d-null : {r : ℕ} {m : List ℤ} → Does x (at r null) m ε ended m
-  d-to : {r : ℕ} {q : State} {m : List ℤ} → Does x (at r (to q)) m ε (onto q) m
-  d-assign : {r : ℕ} {is : List Gets} {m zs : List ℤ} → Evals x m is zs → Does x (at r (assign is)) m ε ended (update m (getters is) zs)
-  d-choose : {r : ℕ} {is : List OfType} {e : Exp} {m zs : List ℤ} → Chosen x is zs → test x e (update m (choosers is) zs) ≡ Holds
+  d_null : {r : ℕ} {m : List ℤ} → Does x (at r null) m ε ended m
+  d_to : {r : ℕ} {q : State} {m : List ℤ} → Does x (at r (to q)) m ε (onto q) m
+  d_assign : {r : ℕ} {is : List Gets} {m zs : List ℤ} → Evals x m is zs → Does x (at r (assign is)) m ε ended (update m (getters is) zs)
+  d_choose : {r : ℕ} {is : List OfType} {e : Exp} {m zs : List ℤ} → Chosen x is zs → test x e (update m (choosers is) zs) ≡ Holds
       → Does x (at r (choose is e)) m ε ended (update m (choosers is) zs)
-  d-reset : {r : ℕ} {vs : List Variable} {m : List ℤ} → Does x (at r (reset vs)) m ε ended (resetting x vs m)
-  d-communicate : {r : ℕ} {g : Gate} {os : List Offer} {m n zs : List ℤ} → Accepts x os zs m n
+  d_reset : {r : ℕ} {vs : List Variable} {m : List ℤ} → Does x (at r (reset vs)) m ε ended (resetting x vs m)
+  d_communicate : {r : ℕ} {g : Gate} {os : List Offer} {m n zs : List ℤ} → Accepts x os zs m n
       → Does x (at r (communicate g os)) m (on g zs) ended n
-  d-then : {r : ℕ} {a b : Action} {m n k : List ℤ} {l₁ l₂ l : Label} {s : Next} → Does x a m l₁ ended n → Does x b n l₂ s k
+  d_then : {r : ℕ} {a b : Action} {m n k : List ℤ} {l₁ l₂ l : Label} {s : Next} → Does x a m l₁ ended n → Does x b n l₂ s k
       → Sum l₁ l₂ l → Does x (at r (then a b)) m l s k
-  d-leave : {r : ℕ} {a b : Action} {m n : List ℤ} {l : Label} {q : State} → Does x a m l (onto q) n → Does x (at r (then a b)) m l (onto q) n
-  d-select : {r i : ℕ} {bs : Branches} {a : Action} {m n : List ℤ} {l : Label} {s : Next} → Nth bs i a → Does x a m l s n
+  d_leave : {r : ℕ} {a b : Action} {m n : List ℤ} {l : Label} {q : State} → Does x a m l (onto q) n → Does x (at r (then a b)) m l (onto q) n
+  d_select : {r i : ℕ} {bs : Branches} {a : Action} {m n : List ℤ} {l : Label} {s : Next} → Nth bs i a → Does x a m l s n
       → Does x (at r (select bs)) m l s n
-  d-case : {r : ℕ} {e : Exp} {arms : Arms} {a : Action} {z : ℤ} {m n k : List ℤ} {l : Label} {s : Next} → eval x e m ≡ Is z
+  d_case : {r : ℕ} {e : Exp} {arms : Arms} {a : Action} {z : ℤ} {m n k : List ℤ} {l : Label} {s : Next} → eval x e m ≡ Is z
       → Taken x z m arms a n → Does x a n l s k → Does x (at r (case e arms)) m l s k
-  d-again : {r : ℕ} {e : Exp} {a : Action} {m n : List ℤ} {l : Label} {s : Next} → test x e m ≡ Holds
+  d_again : {r : ℕ} {e : Exp} {a : Action} {m n : List ℤ} {l : Label} {s : Next} → test x e m ≡ Holds
       → Does x (at none (then a (at r (while e a)))) m l s n → Does x (at r (while e a)) m l s n
-  d-done : {r : ℕ} {e : Exp} {a : Action} {m : List ℤ} → test x e m ≡ Fails → Does x (at r (while e a)) m ε ended m
-  d-for : {r : ℕ} {v : Variable} {low high : ℤ} {a : Action} {m n : List ℤ} {l : Label} {s : Next}
+  d_done : {r : ℕ} {e : Exp} {a : Action} {m : List ℤ} → test x e m ≡ Fails → Does x (at r (while e a)) m ε ended m
+  d_for : {r : ℕ} {v : Variable} {low high : ℤ} {a : Action} {m n : List ℤ} {l : Label} {s : Next}
       → Does x (expansion r v low high a) m l s n → Does x (at r (for v low high a)) m l s n
 
 -- one unit for an action row, nothing for an action that no row says
@@ -123,19 +123,19 @@ toll r = cond (eqb r none) 0 1
 
 -- the units of a derivation; a while that goes on is entered again for its further test, a for's while has the for's unit
 unfoldable pub cost : {x : Tables} {a : Action} {m n : List ℤ} {l : Label} {s : Next} → Does x a m l s n → ℕ
-cost (d-null {r}) = toll r
-cost (d-to {r}) = toll r
-cost (d-assign {r} p) = toll r
-cost (d-choose {r} p q) = toll r
-cost (d-reset {r}) = toll r
-cost (d-communicate {r} p) = toll r
-cost (d-then {r} d e p) = toll r + (cost d + cost e)
-cost (d-leave {r} d) = toll r + cost d
-cost (d-select {r} p d) = toll r + cost d
-cost (d-case {r} p q d) = toll r + cost d
-cost (d-again {r} p d) = toll r + cost d
-cost (d-done {r} p) = toll r
-cost (d-for d) = cost d
+cost (d_null {r}) = toll r
+cost (d_to {r}) = toll r
+cost (d_assign {r} p) = toll r
+cost (d_choose {r} p q) = toll r
+cost (d_reset {r}) = toll r
+cost (d_communicate {r} p) = toll r
+cost (d_then {r} d e p) = toll r + (cost d + cost e)
+cost (d_leave {r} d) = toll r + cost d
+cost (d_select {r} p d) = toll r + cost d
+cost (d_case {r} p q d) = toll r + cost d
+cost (d_again {r} p d) = toll r + cost d
+cost (d_done {r} p) = toll r
+cost (d_for d) = cost d
 
 -- the values received, of the values of a label
 unfoldable pub received : List Offer → List ℤ → List ℤ
@@ -146,19 +146,19 @@ received (receive p ∷ os) (z ∷ zs) = z ∷ received os zs
 
 -- the choices of a derivation in running order: what a script supplies
 unfoldable pub choices : {x : Tables} {a : Action} {m n : List ℤ} {l : Label} {s : Next} → Does x a m l s n → List ℤ
-choices d-null = []
-choices d-to = []
-choices (d-assign p) = []
-choices (d-choose {zs} p q) = zs
-choices d-reset = []
-choices (d-communicate {os} {zs} p) = received os zs
-choices (d-then d e p) = choices d ++ choices e
-choices (d-leave d) = choices d
-choices (d-select {i} p d) = pos i ∷ choices d
-choices (d-case p q d) = choices d
-choices (d-again p d) = choices d
-choices (d-done p) = []
-choices (d-for d) = choices d
+choices d_null = []
+choices d_to = []
+choices (d_assign p) = []
+choices (d_choose {zs} p q) = zs
+choices d_reset = []
+choices (d_communicate {os} {zs} p) = received os zs
+choices (d_then d e p) = choices d ++ choices e
+choices (d_leave d) = choices d
+choices (d_select {i} p d) = pos i ∷ choices d
+choices (d_case p q d) = choices d
+choices (d_again p d) = choices d
+choices (d_done p) = []
+choices (d_for d) = choices d
 
 -- the arms that failed read nothing undefined
 unfoldable pub Sure : {x : Tables} {z : ℤ} {m : List ℤ} {arms : Arms} {a : Action} {n : List ℤ} → Taken x z m arms a n → Type 0
@@ -167,16 +167,16 @@ Sure {x} {z} {m} (later {p} f t) = (match x p z m ≡ failed) × Sure t
 
 -- the derivation reads nothing undefined
 unfoldable pub ReadsDefined : {x : Tables} {a : Action} {m n : List ℤ} {l : Label} {s : Next} → Does x a m l s n → Type 0
-ReadsDefined d-null = Unit
-ReadsDefined d-to = Unit
-ReadsDefined (d-assign p) = Unit
-ReadsDefined (d-choose p q) = Unit
-ReadsDefined d-reset = Unit
-ReadsDefined (d-communicate p) = Unit
-ReadsDefined (d-then d e p) = ReadsDefined d × ReadsDefined e
-ReadsDefined (d-leave d) = ReadsDefined d
-ReadsDefined (d-select p d) = ReadsDefined d
-ReadsDefined (d-case p q d) = Sure q × ReadsDefined d
-ReadsDefined (d-again p d) = ReadsDefined d
-ReadsDefined (d-done p) = Unit
-ReadsDefined (d-for d) = ReadsDefined d
+ReadsDefined d_null = Unit
+ReadsDefined d_to = Unit
+ReadsDefined (d_assign p) = Unit
+ReadsDefined (d_choose p q) = Unit
+ReadsDefined d_reset = Unit
+ReadsDefined (d_communicate p) = Unit
+ReadsDefined (d_then d e p) = ReadsDefined d × ReadsDefined e
+ReadsDefined (d_leave d) = ReadsDefined d
+ReadsDefined (d_select p d) = ReadsDefined d
+ReadsDefined (d_case p q d) = Sure q × ReadsDefined d
+ReadsDefined (d_again p d) = ReadsDefined d
+ReadsDefined (d_done p) = Unit
+ReadsDefined (d_for d) = ReadsDefined d

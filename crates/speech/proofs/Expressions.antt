@@ -45,13 +45,13 @@ unfolding condition_at
 condition-none x r e = rw e
 
 -- no other row is
-not-constant : (x : Tables) (f : ℕ → Exp) (w : Fields) (e : ExpressionRow) → (code_of (an_expression e) ≡ 2 → ⊥)
+not_constant : (x : Tables) (f : ℕ → Exp) (w : Fields) (e : ExpressionRow) → (code_of (an_expression e) ≡ 2 → ⊥)
     → is_always (grow_expression x f w (an_expression e)) ≡ false
 unfolding grow_expression
-not-constant x f w is_variable n = refl
-not-constant x f w is_constant n = absurd (n refl)
-not-constant x f w (is_unary o) n = refl
-not-constant x f w (is_binary o) n = refl
+not_constant x f w is_variable n = refl
+not_constant x f w is_constant n = absurd (n refl)
+not_constant x f w (is_unary o) n = refl
+not_constant x f w (is_binary o) n = refl
 
 type-as : (x : Tables) (f : ℕ → Exp) (w : Fields) (e : ExpressionRow) (c : ℕ) → code_of (an_expression e) ≡ c → (c ≡ 1 → ⊥) → (c ≡ 2 → ⊥)
     → cond (leb 19 c && leb c 24) int bool ≡ type_of_exp x (grow_expression x f w (an_expression e))
@@ -95,7 +95,7 @@ module _ {s : List ℕ} {i : Image} {r : ℕ} (h : OfKind s i expression r) wher
       ∙ sym (ap is_always (expression_at-is x ok r (an_expression is_constant) (means x r 2 (eqb-true _ 2 q))))
   always-by false q =
       sym (ap is_always (expression_at-is x ok r (an_expression e) is-e)
-      ∙ not-constant x (expression_at x) (fields_of x r) e (λ p. eqb-false _ 2 q (sym code-e ∙ p)))
+      ∙ not_constant x (expression_at x) (fields_of x r) e (λ p. eqb-false _ 2 q (sym code-e ∙ p)))
 
   pub always-row : {w : Fields} → w ≡ fields_of (tables_of s) r → (r ≡ none → ⊥)
       → ((eqb w.code 2 && eqb w.a 0) && eqb w.b 1) ≡ is_always (condition_at (tables_of s) r)
