@@ -1,5 +1,5 @@
 -- The rows of a list, one after another. Assumes nothing.
-use mathlib.Core.{Path.◌≡◌, Path.◌∙◌, Logic.◌⊎◌, Logic.inl, Logic.inr, Logic.⊎_elim, Bool.true, List.List}
+use mathlib.Core.{Path.◌≡◌, Path.◌∙◌, Logic.inl, Logic.inr, Logic.⊎_elim, Bool.true, List.List}
 use Prim.Native.Nat.{ℕ, ◌+◌, ◌%◌, ◌<◌}
 use native.Mathlib.Omega.{arith}
 use lib.{IntN.ℤ}

@@ -1,4 +1,6 @@
 // The simple actions that say nothing: assignment, any, reset; each on a working copy of the store.
+#![tactic(auto)]
+
 ghost use Rattle.std.specs.Prelude.{◌≡◌, cond, length};
 ghost use Rattle.model.specs.declared.Refusal.TheVariants.{Blocked, BlockedSpoken};
 ghost use Rattle.model.specs.Answers.{row};

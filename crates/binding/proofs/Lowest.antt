@@ -4,7 +4,7 @@ use Prim.Native.Nat.{ℕ, ◌≤◌, ◌<◌}
 use native.Mathlib.Omega.{arith}
 use lib.{ListN.length, ListN.get_or, ListN.take, ListN.length-take, Seq.get_or-take}
 use Rattle.model.specs.declared.{Image.Image, Verdict.TheVariants.Accepted, Verdict.TheVariants.Refused, Refusal.TheVariants.Binding}
-use Rattle.model.specs.Answers.{row, lowest, each}
+use Rattle.model.specs.Answers.{row, lowest}
 use Rattle.model.specs.Image.{tables_of, row_count}
 use Rattle.model.specs.Binding.{parameters_of, bound}
 use Rattle.model.proofs.Order.{lowest-full, each-full, each-refuses}

@@ -1,5 +1,7 @@
 // Binding (refusal 9): a vector or a list of offers defines each variable at most once, offers run left to right, the body
 // of a for leaves its variable alone, and the initial condition reads parameters only.
+#![tactic(auto)]
+
 ghost use Rattle.std.specs.Prelude.{◌≡◌};
 ghost use Rattle.model.specs.Image.{tables_of};
 ghost use Rattle.model.specs.Rows.{kind_of, shape_of};

@@ -1,4 +1,6 @@
 // Expressions, evaluated on a store: by recursion on rows, an undefined read an answer of its own.
+#![tactic(auto)]
+
 ghost use Rattle.std.specs.Prelude.{◌≡◌, ◌<◌, length, get_or};
 ghost use Rattle.std.specs.Int.Signed.{mag};
 ghost use Rattle.model.specs.Image.{tables_of, fields_of};

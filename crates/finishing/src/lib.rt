@@ -1,4 +1,6 @@
 // What a step writes back where it moves, and what it answers.
+#![tactic(auto)]
+
 ghost use Rattle.std.specs.Prelude.{◌≡◌, ◌++◌, ◌≤◌, ◌<◌, pos, length, get_or, drop};
 ghost use Rattle.model.specs.Run.{label_words};
 ghost use Rattle.model.specs.Calls.{moved_as};

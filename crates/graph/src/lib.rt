@@ -1,4 +1,6 @@
 // The graph of an image for Graphviz: a box for each state with its action, an arrow for each jump.
+#![tactic(auto)]
+
 ghost use Rattle.std.specs.Prelude.{◌≡◌, true, ◌<◌};
 ghost use Rattle.model.specs.Image.{tables_of, state_count};
 ghost use Rattle.image.specs.Located.{Located, StateOf};

@@ -1,9 +1,9 @@
 -- One law for each way of the code of 1 to 4. Assumes nothing.
-use mathlib.Core.{Path.◌≡◌, Path.refl, Path.sym, Path.ap, Path.◌∙◌, Bool.Bool, Bool.true, Bool.false, Bool.not, Bool.◌&&◌, List.List, List.[], List.◌∷◌}
+use mathlib.Core.{Path.◌≡◌, Path.refl, Path.sym, Path.ap, Path.◌∙◌, Bool.Bool, Bool.true, Bool.false, Bool.◌&&◌, List.List, List.[], List.◌∷◌}
 use Prim.Native.Nat.{ℕ, ◌+◌, ◌-◌, ◌/◌, ◌%◌, ◌≤◌, ◌<◌}
 use native.Mathlib.{Omega.arith, Numerals.add-one}
 use lib.{Dec.eqb, Dec.leb, Dec.ltb, ListN.length, ListN.get_or, ListN.drop, Seq.drop-cons, ListN.drop_of_length-le}
-use borrow.Author.Tests.{lt-ltb, le-ltb, le-leb, lt-leb, eq-eqb, ne_eqb, leb-true, eqb-true, not-true, not-false}
+use borrow.Author.Tests.{lt-ltb, le-ltb, le-leb, lt-leb, eq-eqb, ne_eqb, leb-true, eqb-true}
 use Rattle.model.specs.declared.{Image.Image, Verdict.TheVariants.Accepted, Verdict.TheVariants.Refused, Refusal.TheVariants.ImageLength, Refusal.TheVariants.MarkOrLength, Refusal.TheVariants.Starts, Refusal.TheVariants.Entries}
 use Rattle.model.specs.Answers.{after, unless}
 use Rattle.model.specs.Image.{Entry, length_fits, marked, trailer_of, table_fits, starts_fit, others_fit, sizes_fit, entries_fit, entries_right, tables_of, size_of, entry_of}

@@ -1,4 +1,6 @@
 // The refusals 1 to 4: length, mark, starts and counts, entries of types and variables.
+#![tactic(auto)]
+
 ghost use Rattle.std.specs.Prelude.{◌≡◌, true, ◌≤◌, ◌<◌, length, drop};
 ghost use Rattle.model.specs.Image.{length_fits, marked, trailer_of, table_fits, starts_fit, tables_of, others_fit, sizes_fit, entries_fit};
 ghost use Rattle.image.specs.Located.{Located, header_verdict};

@@ -1,4 +1,6 @@
 // An image's trailer and tables, read from its bytes.
+#![tactic(auto)]
+
 ghost use Rattle.std.specs.Prelude.{◌≡◌, ◌≤◌, length, get_or};
 ghost use Rattle.model.specs.Answers.{variable};
 ghost use Rattle.model.specs.Image.{none, trailer_of, tables_of, size_of, entry_of, fields_of};

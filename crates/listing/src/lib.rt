@@ -1,4 +1,6 @@
 // What the lister writes: a line for each state of an accepted image, or the refusal's number and place.
+#![tactic(auto)]
+
 ghost use Rattle.std.specs.Prelude.{◌≡◌, [], ◌∷◌, ◌++◌, ◌+◌, ◌*◌, ◌≤◌, length, take, drop};
 ghost use Rattle.model.specs.declared.Verdict.TheVariants.{Refused};
 ghost use Rattle.model.specs.Image.{tables_of, variable_count, state_count};

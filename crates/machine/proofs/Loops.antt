@@ -1,6 +1,6 @@
 -- The ways of a while and of a for, from their first test or from any later one. Assumes nothing.
 use mathlib.Core.{Path.◌≡◌, Path.refl, Path.sym, Path.ap, Path.◌∙◌, Path.subst, List.List}
-use Prim.Native.Nat.{ℕ, zero, suc, ◌-◌, ◌≤◌, ◌<◌}
+use Prim.Native.Nat.{ℕ, zero, suc, ◌≤◌, ◌<◌}
 use native.Mathlib.Omega.{arith}
 use lib.{IntN.ℤ, IntN.pos, ListN.length, ListN.set, Signed.mag}
 use borrow.Author.Tests.{ltb-true}

@@ -6,8 +6,8 @@ use native.Mathlib.Omega.{arith}
 use lib.{IntN.ℤ, ListN.length}
 use borrow.Author.Tests.{eq-eqb}
 use Rattle.model.specs.declared.{Fields.Fields}
-use Rattle.model.specs.Image.{Tables, none, trailer_of, tables_of, fields_of}
-use Rattle.model.specs.Rows.{Kind, range, action, branch, ActionRow, is_null, is_assign, is_choose, is_reset, is_communicate, is_to, is_then, is_select, is_case, is_while, is_for, an_action, codes, lookup, shape_of, means_at, list_up_to, next_of}
+use Rattle.model.specs.Image.{Tables, none, tables_of, fields_of}
+use Rattle.model.specs.Rows.{Kind, action, branch, ActionRow, is_null, is_assign, is_choose, is_reset, is_communicate, is_to, is_then, is_select, is_case, is_while, is_for, an_action, codes, lookup, shape_of, means_at, list_up_to, next_of}
 use Rattle.model.specs.Trees.{Arms, no_arm, arm as an_arm}
 use Rattle.model.specs.Decode.{grow_action, action_at, act_of}
 use Rattle.model.specs.Typing.{type_of_pat, arms_of_type}

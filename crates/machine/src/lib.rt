@@ -1,5 +1,7 @@
 // The run of an action, on a working copy of the store: one attempt. Running an action and running the branches or arms it
 // holds lead into each other. A run's state stands in slots, and how it ended is a number (crate told).
+#![tactic(auto)]
+
 ghost use Rattle.std.specs.Prelude.{◌≡◌, cond, suc, ◌+◌, ◌-◌, ◌/◌, ◌^◌, ◌≤◌, ◌<◌, leb, pos, length};
 ghost use Rattle.model.specs.declared.{Refusal.TheVariants.Blocked, Refusal.TheVariants.BlockedSpoken, Outcome.TheVariants.Stops};
 ghost use Rattle.model.specs.Answers.{row};

@@ -1,4 +1,6 @@
 // Masks: sets of variables and of states, and the masks of an image's rows.
+#![tactic(auto)]
+
 ghost use Rattle.std.specs.Prelude.{◌≡◌, ◌<◌};
 ghost use Rattle.model.specs.Masks.{bit, join, without, inside, apart};
 ghost use Rattle.model.specs.Image.{tables_of, row_count};

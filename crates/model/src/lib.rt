@@ -1,5 +1,7 @@
 // What the documents' definitions and the calls share: the image type with its limits, the report's sets of states,
 // variables and gates, and the answers by value.
+#![tactic(auto)]
+
 ghost use Rattle.std.specs.Prelude.{◌≡◌};
 ghost use Rattle.model.specs.Limits.{limits};
 ghost use Rattle.model.specs.Answers.{number, place};

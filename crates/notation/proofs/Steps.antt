@@ -3,7 +3,7 @@ use mathlib.Core.{Path.◌≡◌, Path.refl, Path.sym, Path.ap, Path.◌∙◌, 
 use Prim.Native.Nat.{ℕ, zero, suc, ◌+◌, ◌-◌, ◌<◌, ◌≤◌}
 use native.Mathlib.{Omega.arith, Decide.dec_lt, Numerals.add-one}
 use lib.{Dec.eqb, ListN.length, ListN.get_or, ListN.drop, ListN.drop_of_length-le, ListN.get_or-eq_default, Seq.drop-cons}
-use borrow.Author.Tests.{eq-eqb, ne_eqb}
+use borrow.Author.Tests.{ne_eqb}
 use Rattle.model.specs.declared.Fields.{Fields}
 use Rattle.text.specs.Emit.{Page, emit, Emitted}
 use Rattle.text.proofs.Pages.{emit-append, emit-then}

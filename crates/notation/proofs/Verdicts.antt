@@ -3,14 +3,13 @@ use mathlib.Core.{Path.◌≡◌, Path.refl, Path.sym, Path.ap, Path.◌∙◌, 
 use Prim.Native.Nat.{ℕ, ◌≤◌}
 use native.Mathlib.{Omega.arith}
 use lib.{Dec.leb, ListN.length}
-use Rattle.model.specs.declared.{Refusal.Refusal, Refusal.TheVariants.ImageLength, Refusal.TheVariants.MarkOrLength, Refusal.TheVariants.Starts, Refusal.TheVariants.Entries, Refusal.TheVariants.SetsShort, Verdict.Verdict, Verdict.TheVariants.Accepted, Verdict.TheVariants.Refused}
+use Rattle.model.specs.declared.{Refusal.Refusal, Refusal.TheVariants.ImageLength, Refusal.TheVariants.MarkOrLength, Refusal.TheVariants.Starts, Refusal.TheVariants.Entries, Refusal.TheVariants.SetsShort, Verdict.Verdict, Verdict.TheVariants.Refused}
 use Rattle.model.specs.Answers.{number, after, unless}
 use Rattle.model.specs.Image.{length_fits, marked, trailer_of, starts_fit, tables_of, entries_right}
 use Rattle.model.specs.Calls.{rows_verdict, rules_verdict, image_verdict, flow_verdict, check_verdict}
 use Rattle.model.proofs.Order.{after-assoc}
 use Rattle.model.proofs.Rows.{both_true}
 use borrow.Author.Tests.{leb-true}
-use Rattle.image.specs.Located.{Located}
 use Rattle.listing.specs.Gave.{Gave}
 use Rattle.listing.proofs.Listed.{gave-verdict}
 use Rattle.notation.specs.Whole.{explained_by, explained}

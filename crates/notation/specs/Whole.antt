@@ -1,5 +1,5 @@
 -- What is written of an image: its tables, its rows or its states' actions, the verdict. Assumes nothing.
-use mathlib.Core.{Bool.Bool, Bool.true, Bool.false, List.List, List.[], List.◌∷◌, List.◌++◌}
+use mathlib.Core.{Bool.Bool, Bool.true, Bool.false, List.List, List.[], List.◌++◌}
 use Rattle.std.specs.Prelude.{ℕ, ◌+◌, min}
 use lib.{Dec.eqb, Dec.ltb, ListN.length, ListN.get_or, ListN.replicate}
 use Rattle.model.specs.declared.{Image.Image, Fields.Fields, Refusal.Refusal, Verdict.Verdict, Verdict.TheVariants.Accepted, Verdict.TheVariants.Refused}
@@ -12,7 +12,7 @@ use Rattle.model.specs.Exports.{decimal}
 use Rattle.text.specs.Emit.{bytes}
 use Rattle.notation.specs.declared.{Style.Style, Filling.Filling}
 use Rattle.notation.specs.Table.{notation}
-use Rattle.notation.specs.Texts.{line_from, each, aim_at, filled, row_text, line_text}
+use Rattle.notation.specs.Texts.{line_from, each, aim_at, filled, line_text}
 use Rattle.notation.specs.Lines.{TYPE-TABLE, VARIABLE-TABLE, ROW-TABLE, IMAGE, STARTS, COUNTS, LENGTH, TYPES, BOOL-TYPE, INT-TYPE, OTHER-TYPE, VARIABLES, VARIABLE, PARAMETER, DAMAGED, GATES, CONDITION, CONDITION-ROW, STATES, STATE-ROW, STATE, ROWS, ROW, SET, SET-END, ACCEPTED, REFUSED}
 
 abbrev pub fields_with : ℕ → ℕ → ℕ → Fields

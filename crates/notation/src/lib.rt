@@ -1,4 +1,6 @@
 // Images written for people, in the report's notation.
+#![tactic(auto)]
+
 ghost use Rattle.std.specs.Prelude.{◌≡◌, ◌++◌, ◌<◌};
 ghost use Rattle.model.specs.Image.{tables_of, fields_of};
 ghost use Rattle.image.specs.Located.{Located};

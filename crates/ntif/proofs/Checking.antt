@@ -4,7 +4,6 @@ use Prim.Native.Nat.{ℕ, ◌/◌, ◌≤◌, ◌<◌}
 use native.Mathlib.Omega.{arith}
 use lib.{ListN.length, ListN.get_or, ListN.take, ListN.drop, Seq.take_at}
 use Rattle.model.specs.declared.{Image.Image, Verdict.Verdict, Verdict.TheVariants.Accepted, Verdict.TheVariants.Refused, Refusal.Refusal}
-use Rattle.model.specs.Answers.{after}
 use Rattle.model.specs.Image.{tables_of, trailer_of}
 use Rattle.model.specs.Largest.{sets_of}
 use Rattle.model.specs.Bytes.{words_of, written}

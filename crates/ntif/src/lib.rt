@@ -1,4 +1,6 @@
 // The three calls on words, and as the C driver has them.
+#![tactic(auto)]
+
 ghost use Rattle.std.specs.Prelude.{◌≡◌, ◌++◌, ◌/◌, ◌^◌, ◌≤◌, ◌<◌, min, length, take, drop};
 ghost use Rattle.model.specs.declared.Stepped.TheVariants.{Moved};
 ghost use Rattle.model.specs.Answers.{state};

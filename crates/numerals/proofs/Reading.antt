@@ -1,8 +1,8 @@
 -- The definitions' cases as the code reaches them. Assumes nothing.
-use mathlib.Core.{Path.◌≡◌, Path.refl, Path.sym, Path.ap, Path.◌∙◌, Bool.Bool, Bool.true, Bool.false, Bool.◌&&◌, List.List, List.[], List.◌∷◌}
+use mathlib.Core.{Path.◌≡◌, Path.refl, Path.sym, Path.ap, Path.◌∙◌, Bool.Bool, Bool.true, Bool.false, List.List, List.[], List.◌∷◌}
 use Prim.Native.Nat.{ℕ, zero, suc, ◌+◌, ◌-◌, ◌*◌, ◌^◌, ◌≤◌, ◌<◌}
 use native.Mathlib.{Omega.arith, Numerals.add-one}
-use lib.{Dec.eqb, Dec.leb, Dec.ltb, IntN.ℤ, IntN.pos, IntN.negsuc, IntN.neg_ℤ, ListN.length, ListN.get_or, ListN.drop, ListN.drop_of_length-le, Seq.drop-cons, Signed.mag}
+use lib.{Dec.leb, IntN.ℤ, IntN.pos, IntN.negsuc, IntN.neg_ℤ, ListN.length, ListN.get_or, ListN.drop, ListN.drop_of_length-le, Seq.drop-cons, Signed.mag}
 use borrow.Author.Tests.{lt-ltb, le-ltb, le-leb, lt-leb, eq-eqb, ne_eqb, leb-true}
 use Rattle.model.specs.Values.{round}
 use Rattle.model.proofs.Rows.{both_true}

@@ -2,7 +2,7 @@
 -- Assumes nothing.
 use mathlib.Core.{Bool.Bool, Bool.true, Bool.false, Bool.cond, Bool.◌&&◌, List.List, List.[], List.◌∷◌}
 use Rattle.std.specs.Prelude.{ℕ, ◌+◌, ◌-◌, ◌*◌}
-use lib.{Dec.eqb, Dec.leb, Dec.ltb, IntN.pos, IntN.neg_ℤ, ListN.length, ListN.get_or, ListN.drop}
+use lib.{Dec.eqb, Dec.leb, Dec.ltb, IntN.pos, IntN.neg_ℤ, ListN.length, ListN.get_or}
 use Rattle.numerals.specs.declared.{Said.Said, Said.TheVariants.Is, Said.TheVariants.Nothing, Word.Word, Word.TheVariants.Number, Word.TheVariants.Dashes, Word.TheVariants.Neither}
 
 -- '0' to '9'

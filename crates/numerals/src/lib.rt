@@ -1,4 +1,6 @@
 // Numbers of 32 bits in text, as programs are given them.
+#![tactic(auto)]
+
 ghost use Rattle.std.specs.Prelude.{◌≡◌, true, ◌≤◌, length, drop, pos, neg_ℤ};
 ghost use Rattle.numerals.specs.Numerals.{is_digit, further, saying, fits, word_in};
 

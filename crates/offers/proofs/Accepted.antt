@@ -1,26 +1,26 @@
 -- The ways of one offer: an emission by its value, a receipt by its word and its match. Assumes nothing.
-use mathlib.Core.{Path.◌≡◌, Path.refl, Path.sym, Path.ap, Path.◌∙◌, Path.subst, Bool.Bool, Bool.true, List.List}
+use mathlib.Core.{Path.◌≡◌, Path.refl, Path.sym, Path.ap, Path.◌∙◌, Path.subst, Bool.true, List.List}
 use Prim.Native.Nat.{ℕ, ◌+◌, ◌<◌}
 use native.Mathlib.Omega.{arith}
 use lib.{IntN.ℤ, ListN.length}
 use Rattle.model.specs.declared.{Image.Image, Fields.Fields, Value.Value, Value.TheVariants.Is, Value.TheVariants.Unknown, Refusal.TheVariants.Blocked, Refusal.TheVariants.Undefined, Refusal.TheVariants.ScriptEnded, Refusal.TheVariants.WordOutOfRange}
-use Rattle.model.specs.Answers.{row, variable}
-use Rattle.model.specs.Values.{half16, of_size}
-use Rattle.model.specs.Image.{Tables, trailer_of, tables_of, fields_of, size_of, type_of, entry_of}
+use Rattle.model.specs.Answers.{row}
+use Rattle.model.specs.Values.{of_size}
+use Rattle.model.specs.Image.{Tables, tables_of, size_of}
 use Rattle.model.specs.Rows.{expression, pattern, offer, OfferRow, is_emit, is_receive, an_offer, codes, lookup, shape_of, means_at}
-use Rattle.model.specs.Trees.{Pat, any, bind, equals, guarded, Offer, emit, receive}
+use Rattle.model.specs.Trees.{Pat, any, bind, equals, guarded}
 use Rattle.model.specs.Decode.{expression_at, pattern_at, offer_of}
 use Rattle.model.specs.Typing.{type_of_pat}
 use Rattle.model.specs.Run.{matched, failed, unsure, eval, match}
 use Rattle.model.specs.Run as run
 use Rattle.model.proofs.Rows.{Row, row_is, is-kind}
 use Rattle.model.proofs.Codes.{code_of, code-of}
-use Rattle.image.specs.Located.{Located, TypeOf, Formed}
+use Rattle.image.specs.Located.{Located, TypeOf}
 use Rattle.image.proofs.Laid.{types-count, half_is}
 use Rattle.demands.proofs.{Good.GoodPat, Good.GoodOffer, GoodRows.good-exp, GoodRows.good-pat, Whole.Whole, Whole.entry-of}
 use Rattle.values.proofs.Held.{held, held-is}
 use Rattle.typing.specs.Rules.{OfKind}
-use Rattle.expressions.specs.Ready.{Ready, Runs}
+use Rattle.expressions.specs.Ready.{Runs}
 use Rattle.expressions.proofs.Ways.{located, all, forms, value-small, local-is}
 use Rattle.patterns.specs.declared.{Match.Match, Match.TheVariants.Matched, Match.TheVariants.Failed}
 use Rattle.patterns.specs.declared.Match.TheVariants as says

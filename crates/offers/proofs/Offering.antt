@@ -1,17 +1,17 @@
 -- The ways of a list of offers, one after another, and of a communication. Assumes nothing.
-use mathlib.Core.{Path.◌≡◌, Path.refl, Path.sym, Path.ap, Path.◌∙◌, Path.subst, Logic.◌⊎◌, Logic.inl, Logic.inr, Logic.⊎_elim, Bool.Bool, Bool.true, Bool.false, Bool.cond, List.List, List.[], List.◌∷◌, List.◌++◌, List.map}
-use Prim.Native.Nat.{ℕ, zero, suc, ◌+◌, ◌%◌, ◌≤◌, ◌<◌}
+use mathlib.Core.{Path.◌≡◌, Path.refl, Path.sym, Path.ap, Path.◌∙◌, Path.subst, Logic.inl, Logic.inr, Logic.⊎_elim, Bool.Bool, Bool.true, Bool.false, Bool.cond, List.List, List.[], List.◌∷◌, List.◌++◌, List.map}
+use Prim.Native.Nat.{ℕ, ◌+◌, ◌%◌, ◌≤◌, ◌<◌}
 use native.Mathlib.{Numerals.add-one, Omega.arith}
 use lib.{IntN.ℤ, ListN.length, ListN.take, ListN.set, ListN.length-set, Seq.take-suc-set, Signed.mag}
-use Rattle.model.specs.declared.{Image.Image, Fields.Fields, Gate.Gate, Value.Value, Value.TheVariants.Is, Value.TheVariants.Unknown, Refusal.Refusal, Refusal.TheVariants.Blocked, Refusal.TheVariants.Undefined, Refusal.TheVariants.ScriptEnded, Refusal.TheVariants.WordOutOfRange, Refusal.TheVariants.SecondCommunication, Outcome.TheVariants.Ends, Outcome.TheVariants.Stops}
+use Rattle.model.specs.declared.{Image.Image, Fields.Fields, Gate.Gate, Value.Value, Value.TheVariants.Is, Value.TheVariants.Unknown, Refusal.Refusal, Refusal.TheVariants.Undefined, Refusal.TheVariants.SecondCommunication, Outcome.TheVariants.Ends, Outcome.TheVariants.Stops}
 use Rattle.model.specs.Answers.{row, gate}
 use Rattle.model.specs.Values.{half16, of_size}
-use Rattle.model.specs.Image.{Tables, none, trailer_of, tables_of, fields_of, size_of}
+use Rattle.model.specs.Image.{Tables, none, tables_of, fields_of, size_of}
 use Rattle.model.specs.Rows.{offer, action, OfferRow, is_emit, is_receive, is_communicate, an_offer, an_action, codes, lookup, shape_of, means_at, is_kind, pick_next, next_of}
-use Rattle.model.specs.Trees.{Pat, Offer, emit, receive, Action}
-use Rattle.model.specs.Decode.{grow_action, list_at, offers_at, action_at}
+use Rattle.model.specs.Trees.{Pat, Offer, emit, receive}
+use Rattle.model.specs.Decode.{grow_action, list_at, offers_at}
 use Rattle.model.specs.Typing.{type_of_pat}
-use Rattle.model.specs.Run.{eval, Match, matched, failed, unsure, match, Label, ε, on, spoken, St, Res, gives, stored, labelled, valued, blocked_at, blocked, offering, communicating}
+use Rattle.model.specs.Run.{eval, Match, matched, failed, unsure, match, ε, on, spoken, St, Res, gives, stored, labelled, valued, blocked_at, blocked, offering, communicating}
 use Rattle.model.proofs.Rows.{fields_for, row_is, is-kind}
 use Rattle.model.proofs.Codes.{means, next-is}
 use Rattle.model.proofs.Decode.{list_at-none, list_at-step, action_at-is}
@@ -19,14 +19,13 @@ use Rattle.image.proofs.Laid.{half_is}
 use Rattle.demands.specs.Stores.{TypedStore}
 use Rattle.demands.proofs.{Good.GoodOffer, Good.GoodPat, Good.Good, Good.GoodAct, GoodRows.good-action, Whole.Whole, Typed.OfType, Typed.eval-typed, Typed.match-typed}
 use Rattle.values.proofs.Held.{held, held-is}
-use Rattle.expressions.specs.Ready.{Ready, Runs}
 use Rattle.expressions.proofs.Ways.{all, forms, value-small}
-use Rattle.actions.specs.declared.{Run.Run, Ran.Ran, Word.Word, Word.TheVariants.Read, Word.TheVariants.Ended, Word.TheVariants.OutOfRange}
+use Rattle.actions.specs.declared.{Run.Run, Word.Word, Word.TheVariants.Read, Word.TheVariants.Ended, Word.TheVariants.OutOfRange}
 use Rattle.actions.specs.Items.{Items}
-use Rattle.actions.specs.State.{label_of, run_at, state_of, result_of}
+use Rattle.actions.specs.State.{run_at, state_of}
 use Rattle.actions.specs.Words.{word_of}
 use Rattle.actions.proofs.Listed.{here-row, next-items}
-use Rattle.actions.proofs.Reading.{onward, read_as, reading_of-by}
+use Rattle.actions.proofs.Reading.{read_as, reading_of-by}
 use Rattle.actions.proofs.Drawing.{read_fits}
 use Rattle.offers.specs.declared.{Offered.Offered, Offered.TheVariants.Gave, Offered.TheVariants.Refused}
 use Rattle.offers.specs.Accepting.{Given, given, offer_by, emits, match_gives, word_gives, receives, accepts}

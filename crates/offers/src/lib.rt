@@ -1,4 +1,6 @@
 // A communication: its offers from left to right, emissions and receipts, and the label that they make.
+#![tactic(auto)]
+
 ghost use mathlib.Core.{Path.◌≡◌, List.[]};
 ghost use Rattle.model.specs.Answers.{gate};
 ghost use Rattle.model.specs.Image.{tables_of};

@@ -4,7 +4,6 @@ use Prim.Native.Nat.{ℕ, zero, suc, ◌^◌, ◌<◌}
 use native.Mathlib.Omega.{arith}
 use lib.{IntN.ℤ, IntN.pos, ListN.length, ListN.get_or, ListN.set, ListN.length-set, Signed.mag}
 use Rattle.model.specs.declared.{Fields.Fields, Tested.Tested, Tested.TheVariants.Holds}
-use Rattle.model.specs.Values.{same}
 use Rattle.model.specs.Image.{tables_of, fields_of}
 use Rattle.model.specs.Rows.{expression, pattern}
 use Rattle.model.specs.Decode.{expression_at, pattern_at}

@@ -1,4 +1,6 @@
 // Patterns, matched with a value on a store, and the first arm whose pattern matches. A failed match leaves the store.
+#![tactic(auto)]
+
 ghost use Rattle.std.specs.Prelude.{◌≡◌, length};
 ghost use Rattle.model.specs.Image.{tables_of};
 ghost use Rattle.model.specs.Rows.{pattern};

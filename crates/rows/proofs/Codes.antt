@@ -1,10 +1,10 @@
 -- What the numbers of a packed line say. Assumes nothing.
-use mathlib.Core.{Path.◌≡◌, Path.refl, Path.sym, Path.ap, Path.◌∙◌, Path.subst, Bool.Bool, Bool.true, Bool.false, List.List, List.[], List.map}
+use mathlib.Core.{Path.◌≡◌, Path.refl, Path.sym, Path.ap, Path.◌∙◌, Path.subst, Bool.Bool, Bool.true, Bool.false, List.List, List.map}
 use Prim.Native.Nat.{ℕ, ◌≤◌, ◌<◌}
 use native.Mathlib.{Nat.zero-add, Omega.arith}
 use lib.{ListN.get_or, ListN.get_or-map}
 use Rattle.model.specs.Lists.{table}
-use Rattle.model.specs.Rows.{Kind, expression, pattern, offer, gets, of_type, item, range, action, branch, arm, unknown, Field, plain, one, one_or_none, list, list_or_none, next, kind_of, Shape, line, shape_of, number_of_kind, pick_next}
+use Rattle.model.specs.Rows.{Kind, expression, pattern, offer, gets, of_type, item, range, action, branch, arm, unknown, Field, plain, one, one_or_none, list, list_or_none, next, kind_of, Shape, shape_of, number_of_kind, pick_next}
 use Rattle.model.proofs.Codes.{shape-past}
 use Rattle.model.proofs.Bytes.{get_or-table}
 use Rattle.rows.specs.declared.lines.Line.{Line}

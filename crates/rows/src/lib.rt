@@ -1,4 +1,6 @@
 // The rows of an image: each as the table of codes says (5), the roots of their kinds (6), each row named once (7).
+#![tactic(auto)]
+
 ghost use Rattle.std.specs.Prelude.{◌≡◌, length};
 ghost use Rattle.model.specs.Answers.{lowest};
 ghost use Rattle.model.specs.Image.{tables_of};

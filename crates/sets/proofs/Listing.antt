@@ -10,7 +10,7 @@ use Rattle.model.specs.Rows.{Kind, pattern, branch, arm, Field, Means, another, 
 use Rattle.model.specs.Trees.{Pat, Action, Branches, no_branch, branch as a_branch, Arms, no_arm, arm as an_arm}
 use Rattle.model.specs.Decode.{pattern_at, action_at, branches_of, arms_of}
 use Rattle.model.specs.Binding.{def_of_pat}
-use Rattle.model.specs.Sets.{ends, ends_branches, ends_arms, fine, fine_branches, fine_arms, jumps, jumps_branches, jumps_arms}
+use Rattle.model.specs.Sets.{ends, ends_branches, ends_arms, fine_branches, fine_arms, jumps_branches, jumps_arms}
 use Rattle.model.specs.Largest.{Sub}
 use Rattle.model.proofs.Rows.{Named, Row, Formed, fields_for, lined, is-kind}
 use Rattle.model.proofs.Decode.{list_at-none, list_at-step}

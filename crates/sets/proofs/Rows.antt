@@ -1,6 +1,6 @@
 -- Rows as the walk reads them: what their codes mean, where their fields point, what their masks are. Assumes nothing.
 use mathlib.Core.{Path.◌≡◌, Path.refl, Path.sym, Path.ap, Path.◌∙◌, Path.subst, Logic.◌⊎◌, Logic.inl, Logic.inr}
-use mathlib.Core.{Bool.true, Bool.false, List.List, List.[], List.map}
+use mathlib.Core.{Bool.true, Bool.false, List.List, List.map}
 use Prim.Native.Nat.{ℕ, suc, ◌+◌, ◌%◌, ◌≤◌, ◌<◌}
 use native.Mathlib.Omega.{arith}
 use lib.{ListN.length}

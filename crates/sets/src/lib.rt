@@ -1,4 +1,6 @@
 // Initialisation: the states that are reached, the largest sets that fit, and 11.
+#![tactic(auto)]
+
 mod flow;
 
 ghost use Rattle.std.specs.Prelude.{◌≡◌, ◌≤◌, ◌<◌};

@@ -1,20 +1,19 @@
 -- What a simple action's row says, by its code. Assumes nothing.
 use mathlib.Core.Logic.{◌⊎◌, inl, inr}
-use mathlib.Core.{Path.◌≡◌, Path.refl, Path.sym, Path.ap, Path.◌∙◌, Path.subst, Bool.Bool, Bool.true, Bool.false, List.List, List.[], List.◌∷◌}
-use Prim.Native.Nat.{ℕ, ◌≤◌, ◌<◌}
+use mathlib.Core.{Path.◌≡◌, Path.refl, Path.sym, Path.ap, Path.◌∙◌, Bool.Bool, Bool.true, Bool.false, List.List}
+use Prim.Native.Nat.{ℕ, ◌<◌}
 use native.Mathlib.Omega.{arith}
-use lib.{IntN.ℤ, ListN.length}
+use lib.{IntN.ℤ}
 use Rattle.model.specs.declared.{Image.Image, Fields.Fields, Outcome.Outcome, Outcome.TheVariants.Ends, Outcome.TheVariants.Jumps, Outcome.TheVariants.Stops, Refusal.TheVariants.Undefined}
 use Rattle.model.specs.Answers.{state, row, gate}
-use Rattle.model.specs.Image.{Tables, none, trailer_of, tables_of, fields_of}
-use Rattle.model.specs.Rows.{gets, expression, item, action, ActionRow, is_null, is_assign, is_choose, is_reset, is_communicate, is_to, is_then, is_select, is_case, is_while, is_for, Means, an_action, codes, lookup, shape_of, means_at, is_kind}
-use Rattle.model.specs.Trees.{Action, at}
+use Rattle.model.specs.Image.{trailer_of, tables_of, fields_of}
+use Rattle.model.specs.Rows.{gets, item, action, ActionRow, is_null, is_assign, is_choose, is_reset, is_communicate, is_to, is_then, is_select, is_case, is_while, is_for, an_action, codes, lookup, shape_of, means_at}
 use Rattle.model.specs.Decode.{grow_action, action_at, act_of, gets_at, of_types_at, variables_at, offers_at, condition_at}
-use Rattle.model.specs.Run.{St, Res, gives, stored, assigning, choosing, resetting, communicating, exec_act}
+use Rattle.model.specs.Run.{St, Res, assigning, choosing, resetting, communicating, exec_act}
 use Rattle.model.proofs.Rows.{Row, is-kind, row_is}
 use Rattle.model.proofs.Codes.{code_of, code-of, means}
 use Rattle.model.proofs.Decode.{action_at-is}
-use Rattle.expressions.specs.Ready.{Ready, Runs}
+use Rattle.expressions.specs.Ready.{Runs}
 use Rattle.expressions.proofs.Ways.{forms}
 use Rattle.actions.specs.declared.{Run.Run, Ran.Ran}
 use Rattle.actions.specs.Doing.{Doing}

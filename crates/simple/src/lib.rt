@@ -1,4 +1,6 @@
 // The actions that hold no other: null, assignment, any, reset, communication, jump.
+#![tactic(auto)]
+
 ghost use Rattle.std.specs.Prelude.{◌≡◌, ◌≤◌, length};
 ghost use Rattle.model.specs.Image.{trailer_of, tables_of};
 ghost use Rattle.model.specs.Rows.{gets};

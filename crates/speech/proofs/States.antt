@@ -5,7 +5,7 @@ use native.Mathlib.Omega.{arith}
 use lib.{Dec.ltb, ListN.length, ListN.get_or}
 use borrow.Author.Tests.{ltb-true}
 use Rattle.model.specs.declared.{Image.Image, Verdict.TheVariants.Accepted, Verdict.TheVariants.Refused, Refusal.TheVariants.Speech}
-use Rattle.model.specs.Answers.{state, each, lowest}
+use Rattle.model.specs.Answers.{state, lowest}
 use Rattle.model.specs.Image.{Tables, none, tables_of, state_count}
 use Rattle.model.specs.Rows.{action, is_kind, is_root}
 use Rattle.model.specs.Decode.{act}

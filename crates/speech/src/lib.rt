@@ -1,5 +1,7 @@
 // Speech (12): one pass over the rows, lowest first, finds how each action can end, entered quiet and entered spoken; then
 // the states are judged by their actions.
+#![tactic(auto)]
+
 mod arms;
 mod ways;
 

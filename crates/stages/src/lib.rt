@@ -1,4 +1,6 @@
 // The stages 1 to 12 of check in their order, on scratch that the caller lends.
+#![tactic(auto)]
+
 ghost use Rattle.std.specs.Prelude.{◌≡◌, length, ◌≤◌};
 ghost use Rattle.model.specs.Image.{tables_of, row_count};
 ghost use Rattle.masks.specs.Rows.{Lent};

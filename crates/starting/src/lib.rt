@@ -1,4 +1,6 @@
 // The start of an automaton: 1 to 9, then 13 to 16, and the store of an automaton that starts.
+#![tactic(auto)]
+
 ghost use Rattle.std.specs.Prelude.{◌≡◌, length};
 ghost use Rattle.model.specs.Image.{tables_of};
 ghost use Rattle.model.specs.Calls.{parameter_count, started, start};

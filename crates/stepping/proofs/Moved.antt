@@ -9,7 +9,6 @@ use Rattle.model.specs.Decode.{act}
 use Rattle.model.specs.Run.{ε, label_words, St, Res, gives, blocked_at}
 use Rattle.model.specs.Calls.{image_verdict, step_verdict, attempt, StepDone, stayed, moved_as, stepped_as, step}
 use Rattle.model.proofs.Order.{after_both}
-use Rattle.model.proofs.Passed.{passed}
 use Rattle.image.proofs.Laid.{laid, rows-count}
 use Rattle.demands.specs.Common.{AreBytes}
 use Rattle.demands.proofs.Whole.{whole}

@@ -12,7 +12,6 @@ use Rattle.model.specs.Decode.{act}
 use Rattle.model.specs.Run.{ε, Res, exec}
 use Rattle.model.specs.Calls.{image_verdict, slot_fits, step_verdict, attempt, StepDone, stayed, moved_as, stepped_as, step}
 use Rattle.model.proofs.Order.{after-accepted, after-refused, after_both, unless-true, each_all}
-use Rattle.model.proofs.Passed.{passed}
 use Rattle.model.proofs.Run.{exec-left}
 use Rattle.image.proofs.Laid.{laid, rows-count, variables-count}
 use Rattle.demands.specs.Stores.{TypedStore}

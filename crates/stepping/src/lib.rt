@@ -1,4 +1,6 @@
 // A step: its refusals in their order, one attempt on a working copy, and what is written back where it moves.
+#![tactic(auto)]
+
 ghost use Rattle.std.specs.Prelude.{◌≡◌};
 ghost use Rattle.model.specs.Image.{tables_of};
 ghost use Rattle.model.specs.Calls.{slot_fits, attempt, moved_as, step};

@@ -1,5 +1,5 @@
 -- Text written while there is room. Assumes nothing.
-use mathlib.Core.{Path.◌≡◌, Path.refl, Bool.true, Bool.false, List.List, List.[], List.◌∷◌, List.◌++◌}
+use mathlib.Core.{Path.◌≡◌, Path.refl, Bool.true, Bool.false, List.List, List.[], List.◌∷◌}
 use Rattle.std.specs.Prelude.{ℕ, ◌+◌, ◌-◌}
 use Prim.Native.Char.{code}
 use Prim.Native.String.{String, [] as no_text, ◌∷◌ as ◌then-text◌}

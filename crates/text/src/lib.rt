@@ -1,4 +1,6 @@
 // Text in byte slices: bytes and decimal numbers one after another, and what is counted for it.
+#![tactic(auto)]
+
 ghost use Rattle.std.specs.Prelude.{◌≡◌, [], ◌∷◌, ◌+◌, ◌≤◌, length};
 ghost use Rattle.model.specs.Exports.{decimal, count};
 ghost use Rattle.text.specs.Put.{Put};

@@ -1,6 +1,6 @@
 -- The run's state in its slots. Assumes nothing.
 use mathlib.Core.{Path.◌≡◌, Path.refl, Path.ap, Path.◌∙◌, Bool.Bool, Bool.true, Bool.false, List.List, List.[], List.◌∷◌}
-use Prim.Native.Nat.{ℕ, ◌-◌, ◌≤◌, ◌<◌}
+use Prim.Native.Nat.{ℕ, ◌≤◌, ◌<◌}
 use mir.Val.{bool_byte}
 use native.Mathlib.{Nat.mod-eq_of_lt, Omega.arith}
 use lib.{Dec.eqb, ListN.length, ListN.length-set, ListN.set}

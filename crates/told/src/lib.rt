@@ -1,5 +1,7 @@
 // What the run of an action hands on from row to row, so that no copy is made for it: its state in an array, and how it
 // ended as a number.
+#![tactic(auto)]
+
 ghost use Rattle.std.specs.Prelude.{◌≡◌, ◌+◌, ◌-◌, ◌≤◌, ◌<◌, ◌^◌, length, get_or, set};
 ghost use Rattle.model.specs.declared.{Outcome.TheVariants.Stops};
 ghost use Rattle.model.specs.Answers.{number};

@@ -15,7 +15,7 @@ use Rattle.model.specs.Typing.{type_of_unary, takes, may_offer, typed_exp, typed
 use Rattle.model.proofs.Rows as model-rows
 use Rattle.model.proofs.Rows.{Named, is-kind}
 use Rattle.model.proofs.Decode.{list_at-none, list_at-step}
-use Rattle.image.specs.Located.{VariableOf, Formed}
+use Rattle.image.specs.Located.{VariableOf}
 use Rattle.typing.specs.Rules.{row_typed, expression_type, condition_type, gets_typed, of_types_typed, arms_typed, range_typed, operand_of_binary, operand_of, takes_types, Operator, OfKind, OrNone}
 use Rattle.typing.proofs.Codes.{Coded, code-of, unary-code, unary-operator, binary-code, binary-operator}
 use Rattle.typing.proofs.Rows.{Here, all-formed, means-of, means-here, facts-of, child, variable-in, expression-is, pattern-is, action-is}

@@ -1,4 +1,6 @@
 // Typing, refusal 8: the rule of each row of an image that is free of 1 to 6.
+#![tactic(auto)]
+
 ghost use Rattle.std.specs.Prelude.{◌≡◌};
 ghost use Rattle.model.specs.Image.{tables_of};
 ghost use Rattle.model.specs.Rows.{expression, pattern, gets, of_type, range, arm};

@@ -1,6 +1,6 @@
 -- How large sums, negatives, products and quotients are, and what tests of a sign tell. Assumes nothing.
 use mathlib.Core.{Path.◌≡◌, Path.refl, Path.ap, Bool.Bool, Bool.true, Bool.false, Bool.cond}
-use Prim.Native.Nat.{ℕ, zero, suc, ◌+◌, ◌-◌, ◌*◌, ◌/◌, ◌≤◌, ◌<◌, zero-le}
+use Prim.Native.Nat.{ℕ, zero, suc, ◌+◌, ◌*◌, ◌/◌, ◌≤◌, ◌<◌, zero-le}
 use native.Mathlib.{Nat.le_trans, Nat.div-le_self, Nat.mul-le-mul, Omega.arith}
 use lib.{Dec.T, Dec.ltb, IntN.ℤ, IntN.pos, IntN.negsuc, IntN.neg_ℤ, IntN.nat_abs, IntN.◌+ℤ◌, IntN.◌-ℤ◌, IntN.◌*ℤ◌, Signed.mag, Signed.non_neg, Signed.lt_z, Signed.le_z, Signed.quot_z}
 use borrow.Author.Tests.{le-ltb, le-leb, ltb-true}

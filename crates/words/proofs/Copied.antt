@@ -1,5 +1,5 @@
 -- A list written over another's front, entry by entry. Assumes nothing.
-use mathlib.Core.{Path.◌≡◌, Path.sym, Path.ap, Path.◌∙◌, List.List, List.[], List.◌++◌, List.append-nil}
+use mathlib.Core.{Path.◌≡◌, Path.sym, Path.ap, Path.◌∙◌, List.List, List.◌++◌, List.append-nil}
 use Prim.Native.Nat.{ℕ, ◌+◌, ◌^◌, ◌<◌}
 use native.Mathlib.{Numerals.add-one, Nat.zero-add}
 use lib.{IntN.ℤ, IntN.pos, Signed.mag, ListN.length, ListN.take, ListN.drop, ListN.get_or, ListN.set, Seq.take-length, Seq.drop-length, Seq.paste-suc}

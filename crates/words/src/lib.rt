@@ -1,4 +1,6 @@
 // Little-endian numbers in byte slices; words copied.
+#![tactic(auto)]
+
 ghost use Rattle.std.specs.Prelude.{◌≡◌, ◌++◌, map, ◌+◌, ◌*◌, ◌^◌, ◌<◌, ◌≤◌, length, take, drop};
 ghost use Rattle.model.specs.Bytes.{number_at, half_at, bytes_of, unsigned, word_at, signed_words, written};
 

@@ -1,14 +1,9 @@
-
 use borrow.Author.Rules.{rules}
-use mathlib.Core.Path.{◌≡◌, refl, sym, ap, ◌∙◌}
+use mathlib.Core.Path.{refl}
 use native.Mathlib.Omega.{arith}
-use lib.{IntN.ℤ, ListN.set}
-use Rattle.model.specs.Answers.{variable}
-use Rattle.model.specs.Run.{store}
 use Rattle.expressions.proofs.Ways.{row_from, local-is}
 use Rattle.actions.proofs.Listed.{here-row}
 use Rattle.actions.proofs.Assigning.{assign-none, item-inside, item-value, item-next, assign-unknown, assign-stops, assign-stores, kept-where-false}
-use Prim.Native.Nat.{ℕ, ◌+◌, ◌%◌, ◌<◌}
 use Rattle.actions.proofs.+assign_all.Goals as goal
 
 pub returns-then-r-eq-NONE : goal.returns-then-r-eq-NONE

@@ -1,5 +1,3 @@
-
-
 use Rattle.actions.proofs.blocked_at.Goals as goal
 
 pub returns-then-spoken : goal.returns-then-spoken

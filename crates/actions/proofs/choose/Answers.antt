@@ -1,5 +1,3 @@
-
-use borrow.Author.Rules.{rules}
 use Rattle.actions.proofs.Done.{choose-items, drawn-typed, choose-tried, choose-stopped, other-out}
 use Rattle.actions.proofs.choose.Goals as goal
 

@@ -1,16 +1,9 @@
-
 use borrow.Author.Rules.{rules}
-use mathlib.Core.{Path.◌≡◌, Path.refl, Path.◌∙◌, List.List}
-use Prim.Native.Nat.{ℕ, ◌+◌, ◌%◌}
+use mathlib.Core.{Path.◌≡◌, Path.refl, Path.◌∙◌}
+use Prim.Native.Nat.{ℕ}
 use native.Mathlib.Omega.{arith}
-use lib.{IntN.ℤ, ListN.length, ListN.length-set}
-use Rattle.model.specs.Image.{tables_of}
-use Rattle.model.specs.Rows.{of_type}
-use Rattle.model.specs.Decode.{of_types_at}
+use lib.{ListN.length-set}
 use Rattle.expressions.proofs.Ways.{row_from}
-use Rattle.actions.specs.Items.{Items}
-use Rattle.actions.specs.State.{run_at, state_of}
-use Rattle.actions.specs.Words.{drawing}
 use Rattle.actions.proofs.Listed.{here-row}
 use Rattle.actions.proofs.Drawing.{word-inside, draw-none, drawn-inside, drawn-type, drawn-local, draw-next, draw-ended, draw-out, draw-read}
 use Rattle.actions.proofs.draw.Goals as goal

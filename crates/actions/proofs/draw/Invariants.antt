@@ -1,18 +1,12 @@
-
-use borrow.Author.Rules.{rules}
-use mathlib.Core.{Path.◌≡◌, Path.refl, Path.◌∙◌, List.List}
-use Prim.Native.Nat.{ℕ, ◌+◌, ◌%◌}
-use native.Mathlib.Omega.{arith}
-use lib.{IntN.ℤ, ListN.length, ListN.length-set}
+use mathlib.Core.{Path.◌≡◌, List.List}
+use Prim.Native.Nat.{◌+◌, ◌%◌}
+use lib.{IntN.ℤ, ListN.length}
 use Rattle.model.specs.Image.{tables_of}
 use Rattle.model.specs.Rows.{of_type}
 use Rattle.model.specs.Decode.{of_types_at}
-use Rattle.expressions.proofs.Ways.{row_from}
 use Rattle.actions.specs.Items.{Items}
 use Rattle.actions.specs.State.{run_at, state_of}
 use Rattle.actions.specs.Words.{drawing}
-use Rattle.actions.proofs.Listed.{here-row}
-use Rattle.actions.proofs.Drawing.{word-inside, draw-none, drawn-inside, drawn-type, drawn-local, draw-next, draw-ended, draw-out, draw-read}
 use Rattle.actions.proofs.draw.Given as goal
 
 abbrev pub invariant-loop-r : goal.invariant-loop-r

@@ -1,5 +1,3 @@
-
-use borrow.Author.Rules.{rules}
 use native.Mathlib.Omega.{arith}
 use Rattle.values.proofs.Held.{held-is}
 use Rattle.actions.proofs.Reading.{word-ended, word_read, word_out}

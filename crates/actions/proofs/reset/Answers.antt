@@ -1,15 +1,7 @@
-
-use borrow.Author.Rules.{rules}
-use mathlib.Core.Path.{◌≡◌, refl, ◌∙◌}
-use Prim.Native.Nat.{◌+◌, ◌%◌}
+use mathlib.Core.Path.{refl, ◌∙◌}
 use native.Mathlib.Omega.{arith}
-use lib.ListN.{length, length-set}
-use Rattle.model.specs.Image.{tables_of}
-use Rattle.model.specs.Rows.{item}
-use Rattle.model.specs.Decode.{variables_at}
-use Rattle.model.specs.Run.{resetting}
+use lib.ListN.{length-set}
 use Rattle.expressions.proofs.Ways.{row_from}
-use Rattle.actions.specs.Items.{Items}
 use Rattle.actions.proofs.Listed.{here-row}
 use Rattle.actions.proofs.Resetting.{reset-none, variable-inside, reset-next, reset-step}
 use Rattle.actions.proofs.reset.Goals as goal

@@ -1,17 +1,11 @@
-
-use borrow.Author.Rules.{rules}
-use mathlib.Core.Path.{◌≡◌, refl, ◌∙◌}
+use mathlib.Core.Path.{◌≡◌}
 use Prim.Native.Nat.{◌+◌, ◌%◌}
-use native.Mathlib.Omega.{arith}
-use lib.ListN.{length, length-set}
+use lib.ListN.{length}
 use Rattle.model.specs.Image.{tables_of}
 use Rattle.model.specs.Rows.{item}
 use Rattle.model.specs.Decode.{variables_at}
 use Rattle.model.specs.Run.{resetting}
-use Rattle.expressions.proofs.Ways.{row_from}
 use Rattle.actions.specs.Items.{Items}
-use Rattle.actions.proofs.Listed.{here-row}
-use Rattle.actions.proofs.Resetting.{reset-none, variable-inside, reset-next, reset-step}
 use Rattle.actions.proofs.reset.Given as goal
 
 abbrev pub invariant-loop-r : goal.invariant-loop-r

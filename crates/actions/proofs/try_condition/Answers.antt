@@ -1,5 +1,3 @@
-
-use borrow.Author.Rules.{rules}
 use Rattle.actions.proofs.Listed.{here-row}
 use Rattle.actions.proofs.Done.{try-none, try_holds, try-fails, try-unsure}
 use Rattle.actions.proofs.try_condition.Goals as goal

@@ -1,5 +1,4 @@
 -- `binding::binding_verdict` meets its contract: it lends an entry for each row. Assumes nothing.
-use borrow.Author.Rules.{rules}
 use native.Mathlib.Omega.{arith}
 use mathlib.Core.Path.{◌∙◌}
 use lib.ListN.{length-take}

@@ -1,6 +1,5 @@
 -- `binding::bound` meets its contract: one line for each arm. Assumes nothing.
 use mathlib.Core.Path.{◌∙◌}
-use borrow.Author.Rules.{rules}
 use Rattle.binding.proofs.RowRules.{rule-row, rule-condition, rule-other, rule-vector, rule-offers, rule-for, at-vector, at-communicate, at_low, at_high}
 use Rattle.binding.proofs.bound.Goals as goal
 

@@ -1,13 +1,10 @@
 -- `binding::bound_offers` meets its contract. The loop's invariant: the rule of the rest of the list is that of the whole.
 -- Assumes nothing.
-use mathlib.Core.Path.{◌≡◌, refl, ◌∙◌}
+use mathlib.Core.Path.{◌≡◌}
 use Prim.Native.Nat.{◌+◌, ◌%◌}
-use borrow.Author.Rules.{rules}
-use borrow.Author.Tests.{not-true, not-false}
 use Rattle.model.specs.Image.{tables_of}
 use Rattle.model.specs.Decode.{offers_at}
 use Rattle.binding.specs.Bound.{bound_offers, Offers}
-use Rattle.binding.proofs.OfferLists.{offers-over, offer-row, offer-next, offer-less, offer-defines, offer-uses, offer-passes}
 use Rattle.binding.proofs.bound_offers.Given as goal
 
 abbrev pub invariant-loop-r : goal.invariant-loop-r

@@ -1,12 +1,6 @@
 -- `binding::distinct_items` meets its contract. The loop's invariant: the rule of the rest of the list is that of the whole.
 -- Assumes nothing.
-use mathlib.Core.Path.{◌≡◌, refl, ◌∙◌}
-use Prim.Native.Nat.{◌+◌, ◌%◌}
-use borrow.Author.Rules.{rules}
-use borrow.Author.Tests.{not-true, not-false}
-use Rattle.model.specs.Image.{tables_of}
-use Rattle.model.specs.Binding.{distinct}
-use Rattle.binding.specs.Bound.{bits_at, Vector}
+use mathlib.Core.Path.{refl, ◌∙◌}
 use Rattle.binding.proofs.Vectors.{vector-over, vector_row, vector-item, vector-bit, vector-next, vector-less, vector-fails, vector-passes}
 use Rattle.binding.proofs.distinct_items.Goals as goal
 

@@ -1,12 +1,5 @@
 -- `expressions::applied`, `apply` and `operand` meet their contracts: the row falls. Assumes nothing.
-use borrow.Author.Rules.{rules}
-use mathlib.Core.Path.{◌≡◌, refl, ap, ◌∙◌}
-use native.Mathlib.Omega.{arith}
-use Rattle.values.proofs.Held.{held-is}
-use Rattle.expressions.specs.Operators.{value_of}
-use Rattle.expressions.proofs.Ways.{row_from, variable-inside}
-use Rattle.expressions.proofs.Numbers.{first, second, first-unknown, first_small, unary-number, second-unknown, second-small, binary-number, an-operator, variable-number, constant_number, whole, anew}
-use Prim.Native.Nat.{ℕ, ◌+◌, ◌*◌, ◌<◌}
+use Prim.Native.Nat.{◌+◌, ◌*◌}
 use Rattle.expressions.proofs.+applied_apply_operand.Given as goal
 
 abbrev pub decreases-operand : goal.decreases-operand

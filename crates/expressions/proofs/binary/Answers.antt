@@ -1,5 +1,3 @@
-
-use borrow.Author.Rules.{rules}
 use mathlib.Core.Path.{◌∙◌}
 use Rattle.model.specs.Run.{apply_binary}
 use Rattle.expressions.specs.Operators.{binary_of}

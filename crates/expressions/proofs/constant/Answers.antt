@@ -1,5 +1,3 @@
-
-use borrow.Author.Rules.{rules}
 use native.Mathlib.Omega.{arith}
 use Rattle.expressions.proofs.Operated.{int-constant, other_constant}
 use Rattle.expressions.proofs.constant.Goals as goal

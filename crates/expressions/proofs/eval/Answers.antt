@@ -1,5 +1,4 @@
 -- `expressions::eval` meets its contract. Assumes nothing.
-use borrow.Author.Rules.{rules}
 use mathlib.Core.Path.{refl, ap, ◌∙◌}
 use Rattle.values.proofs.Held.{held-is}
 use Rattle.expressions.specs.Operators.{value_of}

@@ -1,5 +1,3 @@
-
-use borrow.Author.Rules.{rules}
 use native.Mathlib.Omega.{arith}
 use Rattle.expressions.proofs.Rows.{inside-from, read-from}
 use Rattle.expressions.proofs.row.Goals as goal

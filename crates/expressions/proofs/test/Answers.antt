@@ -1,5 +1,3 @@
-
-use borrow.Author.Rules.{rules}
 use Rattle.expressions.proofs.Ways.{test-fails, test-holds, test-unsure}
 use Rattle.expressions.proofs.test.Goals as goal
 

@@ -1,7 +1,4 @@
-
-use borrow.Author.Rules.{rules}
 use mathlib.Core.Path.{◌∙◌}
-use Rattle.model.specs.Values.{negate}
 use Rattle.model.specs.Run.{apply_unary}
 use Rattle.values.proofs.Held.{held-is}
 use Rattle.expressions.specs.Operators.{unary_of}

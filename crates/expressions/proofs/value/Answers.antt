@@ -1,7 +1,6 @@
 -- `expressions::value` meets its contract. Assumes nothing.
-use borrow.Author.Rules.{rules}
 use mathlib.Core.Path.{◌∙◌, ap}
-use lib.{IntN.pos, ListN.get_or}
+use lib.{IntN.pos}
 use Rattle.model.specs.Values.{mark, half16}
 use Rattle.values.proofs.Held.{held-is}
 use Rattle.expressions.specs.Operators.{value_of}

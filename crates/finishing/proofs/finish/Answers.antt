@@ -1,5 +1,3 @@
-
-use borrow.Author.Rules.{rules}
 use Rattle.finishing.proofs.Told.{told-ends, told-stops, told-jumps}
 use Rattle.finishing.proofs.finish.Goals as goal
 

@@ -1,5 +1,3 @@
-
-use borrow.Author.Rules.{rules}
 use native.Mathlib.Omega.{arith}
 use Rattle.finishing.proofs.Words.{word_none, word-rest, word-gate, word-eight, word_count, word_value, word_after}
 use Rattle.finishing.proofs.label_word.Goals as goal

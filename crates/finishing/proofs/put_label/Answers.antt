@@ -1,9 +1,7 @@
-
 use borrow.Author.Rules.{rules}
-use mathlib.Core.{Path.◌≡◌, Path.refl, Path.◌∙◌, List.◌++◌}
-use Prim.Native.Nat.{◌≤◌, ◌-◌}
+use mathlib.Core.{Path.◌≡◌, Path.refl, Path.◌∙◌}
 use native.Mathlib.Omega.{arith}
-use lib.ListN.{length, take, drop, length-set}
+use lib.ListN.{length-set}
 use Rattle.model.specs.Run.{label_words}
 use Rattle.actions.specs.State.{label_of}
 use Rattle.words.proofs.Copied.{copied-held, copied-front}

@@ -1,13 +1,8 @@
-
-use borrow.Author.Rules.{rules}
-use mathlib.Core.{Path.◌≡◌, Path.refl, Path.◌∙◌, List.◌++◌}
+use mathlib.Core.{Path.◌≡◌, List.◌++◌}
 use Prim.Native.Nat.{◌≤◌, ◌-◌}
-use native.Mathlib.Omega.{arith}
-use lib.ListN.{length, take, drop, length-set}
+use lib.ListN.{length, take, drop}
 use Rattle.model.specs.Run.{label_words}
 use Rattle.actions.specs.State.{label_of}
-use Rattle.words.proofs.Copied.{copied-held, copied-front}
-use Rattle.finishing.proofs.Words.{words-ten}
 use Rattle.finishing.proofs.put_label.Given as goal
 
 abbrev pub invariant-loop-k : goal.invariant-loop-k

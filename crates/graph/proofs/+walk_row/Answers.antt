@@ -1,10 +1,6 @@
-
-use borrow.Author.Rules.{rules}
-use mathlib.Core.Path.{sym}
 use native.Mathlib.Omega.{arith}
 use Rattle.model.specs.Image.{tables_of}
 use Rattle.graph.proofs.Walks.{walked-spent, walked_none, walked-some}
-use Prim.Native.Nat.{ℕ, ◌<◌}
 use Rattle.graph.proofs.+walk_row.Goals as goal
 
 pub returns-then-left-eq0 : goal.returns-then-left-eq0

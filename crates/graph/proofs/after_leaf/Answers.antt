@@ -1,5 +1,3 @@
-
-use borrow.Author.Rules.{rules}
 use borrow.Author.Tests.{ne_eqb}
 use Rattle.graph.specs.Ways.{after_leaf}
 use Rattle.graph.proofs.after_leaf.Goals as goal

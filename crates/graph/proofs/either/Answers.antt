@@ -1,4 +1,3 @@
-
 use mathlib.Core.Path.{refl}
 use Rattle.model.specs.Masks.{join}
 use Rattle.graph.specs.Ways.{either}

@@ -1,4 +1,3 @@
-
 use borrow.Author.Tests.{ne_eqb}
 use Rattle.graph.specs.Ways.{enters}
 use Rattle.graph.proofs.enters.Goals as goal

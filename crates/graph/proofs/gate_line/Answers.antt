@@ -1,4 +1,3 @@
-
 use borrow.Author.Tests.{ne_eqb}
 use Rattle.graph.specs.Ways.{gate_line}
 use Rattle.graph.proofs.gate_line.Goals as goal

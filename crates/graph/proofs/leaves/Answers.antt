@@ -1,5 +1,3 @@
-
-use borrow.Author.Rules.{rules}
 use borrow.Author.Tests.{ne_eqb}
 use Rattle.graph.specs.Ways.{leaves}
 use Rattle.graph.proofs.leaves.Goals as goal

@@ -1,5 +1,3 @@
-
-use borrow.Author.Rules.{rules}
 use borrow.Author.Tests.{ne_eqb}
 use Rattle.graph.specs.Ways.{parts_of}
 use Rattle.graph.proofs.parts_of.Goals as goal

@@ -1,5 +1,3 @@
-
-use borrow.Author.Rules.{rules}
 use borrow.Author.Tests.{eq-eqb, ne_eqb}
 use Rattle.text.proofs.Pages.{emit-none, emit-then}
 use Rattle.graph.specs.Ways.{arrow_text}

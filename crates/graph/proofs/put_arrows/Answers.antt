@@ -1,13 +1,8 @@
-
 use borrow.Author.Rules.{rules}
 use mathlib.Core.Path.{◌≡◌, refl}
-use Prim.Native.Nat.{◌-◌, ◌≤◌}
 use native.Mathlib.Omega.{arith}
-use lib.ListN.{length}
 use Rattle.model.specs.Image.{tables_of, state_count}
 use Rattle.image.proofs.Laid.{laid}
-use Rattle.text.specs.Emit.{page, Emitted}
-use Rattle.notation.specs.Texts.{each}
 use Rattle.notation.proofs.Steps.{each_next, each_none}
 use Rattle.graph.specs.Ways.{state_arrows}
 use Rattle.graph.proofs.put_arrows.Goals as goal

@@ -1,11 +1,6 @@
-
 use borrow.Author.Rules.{rules}
 use mathlib.Core.Path.{◌≡◌, refl}
-use Prim.Native.Nat.{◌-◌, ◌≤◌}
 use native.Mathlib.Omega.{arith}
-use lib.ListN.{length}
-use Rattle.text.specs.Emit.{page, Emitted}
-use Rattle.notation.specs.Texts.{each}
 use Rattle.notation.proofs.Steps.{each_next, each_none}
 use Rattle.graph.specs.Ways.{gate_text}
 use Rattle.graph.proofs.put_gates.Goals as goal

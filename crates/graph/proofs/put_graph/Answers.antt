@@ -1,5 +1,3 @@
-
-use borrow.Author.Rules.{rules}
 use Rattle.text.proofs.Pages.{emit-then}
 use Rattle.graph.specs.Ways.{graph_text}
 use Rattle.graph.proofs.put_graph.Goals as goal

@@ -1,5 +1,3 @@
-
-use borrow.Author.Rules.{rules}
 use Rattle.text.proofs.Pages.{emit-then}
 use Rattle.graph.specs.Ways.{label_text}
 use Rattle.graph.proofs.put_label.Goals as goal

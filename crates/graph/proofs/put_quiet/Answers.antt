@@ -1,5 +1,3 @@
-
-use borrow.Author.Rules.{rules}
 use Rattle.text.proofs.Pages.{emit-none}
 use Rattle.graph.specs.Ways.{quiet_text}
 use Rattle.graph.proofs.put_quiet.Goals as goal

@@ -1,5 +1,3 @@
-
-use borrow.Author.Rules.{rules}
 use Rattle.graph.specs.Ways.{state_arrows}
 use Rattle.graph.proofs.put_state_arrows.Goals as goal
 

@@ -1,4 +1,3 @@
-
 use Rattle.graph.specs.Ways.{reached}
 use Rattle.graph.proofs.reached.Goals as goal
 

@@ -1,5 +1,3 @@
-
-use borrow.Author.Rules.{rules}
 use Rattle.graph.specs.Ways.{spoken}
 use Rattle.graph.proofs.spoken.Goals as goal
 

@@ -1,8 +1,5 @@
-
-use borrow.Author.Rules.{rules}
 use native.Mathlib.Omega.{arith}
-use Rattle.header.proofs.Laws.{Entered, entered-begin, entered-type, entered-parameter, entered-next, entered-done}
-use Prim.Native.Nat.{◌-◌}
+use Rattle.header.proofs.Laws.{entered-begin, entered-type, entered-parameter, entered-next, entered-done}
 use Rattle.image.proofs.Laid.{variables-count}
 use Rattle.header.proofs.entries_fit.Goals as goal
 

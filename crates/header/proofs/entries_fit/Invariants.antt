@@ -1,9 +1,5 @@
-
-use borrow.Author.Rules.{rules}
-use native.Mathlib.Omega.{arith}
-use Rattle.header.proofs.Laws.{Entered, entered-begin, entered-type, entered-parameter, entered-next, entered-done}
+use Rattle.header.proofs.Laws.{Entered}
 use Prim.Native.Nat.{◌-◌}
-use Rattle.image.proofs.Laid.{variables-count}
 use Rattle.header.proofs.entries_fit.Given as goal
 
 abbrev pub invariant-loop-v : goal.invariant-loop-v

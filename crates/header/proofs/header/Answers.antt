@@ -1,5 +1,3 @@
-
-use borrow.Author.Rules.{rules}
 use native.Mathlib.Omega.{arith}
 use Rattle.header.proofs.Laws.{passes, fails, long-enough, located, trailer-long, header-1, header-2, header-3, header-4, header-5, header-6}
 use Rattle.header.proofs.header.Goals as goal

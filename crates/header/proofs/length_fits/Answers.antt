@@ -1,5 +1,3 @@
-
-use borrow.Author.Rules.{rules}
 use Rattle.header.proofs.Laws.{short, not_short}
 use Rattle.header.proofs.length_fits.Goals as goal
 

@@ -1,5 +1,3 @@
-
-use borrow.Author.Rules.{rules}
 use native.Mathlib.Omega.{arith}
 use Rattle.header.proofs.Laws.{long-enough, mark-first, mark-second, mark-length}
 use Rattle.header.proofs.marked.Goals as goal

@@ -1,5 +1,3 @@
-
-use borrow.Author.Rules.{rules}
 use Rattle.header.proofs.Laws.{bool-type, int-type, sizes-bool, sizes-int, sizes-others}
 use Rattle.header.proofs.sizes_fit.Goals as goal
 

@@ -1,5 +1,3 @@
-
-use borrow.Author.Rules.{rules}
 use mathlib.Core.{Path.refl}
 use Rattle.header.proofs.Laws.{passes, fails, chain-1, chain-2, chain-last}
 use borrow.Author.Tests.{eq-eqb, ne_eqb, le-leb, lt-leb}

@@ -1,5 +1,3 @@
-
-use borrow.Author.Rules.{rules}
 use Rattle.header.proofs.Laws.{table-order, table-part, table-few, table-many}
 use Rattle.header.proofs.table_fits.Goals as goal
 

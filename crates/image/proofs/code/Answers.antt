@@ -1,5 +1,3 @@
-
-use borrow.Author.Rules.{rules}
 use native.Mathlib.Omega.{arith}
 use Rattle.model.specs.declared.{Fields.Fields}
 use Rattle.image.proofs.Laid.{row_inside, row_read}

@@ -1,5 +1,3 @@
-
-use borrow.Author.Rules.{rules}
 use Rattle.model.specs.Image.{trailer_of}
 use Rattle.image.proofs.trailer.Goals as goal
 

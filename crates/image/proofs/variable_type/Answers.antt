@@ -1,5 +1,3 @@
-
-use borrow.Author.Rules.{rules}
 use native.Mathlib.Omega.{arith}
 use Rattle.model.specs.Image.{Entry}
 use Rattle.image.proofs.Laid.{variable-inside, variable-read}

@@ -1,13 +1,9 @@
-
 use borrow.Author.Rules.{rules}
 use mathlib.Core.Path.{◌≡◌, refl}
-use Prim.Native.Nat.{◌+◌, ◌-◌, ◌*◌, ◌≤◌}
 use native.Mathlib.Omega.{arith}
-use lib.ListN.{length, take}
 use Rattle.model.specs.Image.{tables_of, variable_count, state_count}
 use Rattle.model.specs.Exports.{lines}
 use Rattle.image.proofs.Laid.{laid}
-use Rattle.text.specs.Put.{Put}
 use Rattle.text.proofs.Put.{put-none, put_then}
 use Rattle.listing.proofs.Lines.{lines_next}
 use Rattle.listing.proofs.put_lines.Goals as goal

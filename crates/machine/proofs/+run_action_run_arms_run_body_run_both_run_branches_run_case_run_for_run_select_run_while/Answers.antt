@@ -3,8 +3,8 @@
 -- Select and case: the needs of the cycle's proof. Assumes nothing.
 -- What the functions of the cycle promise each other, by units and rows that fall. Assumes nothing.
 -- While and for: the needs of the cycle's proof. Assumes nothing.
-use Prim.Native.Nat.{◌+◌, ℕ, ◌/◌, ◌%◌, ◌*◌, ◌<◌}
-use mathlib.Core.Path.{refl, sym, ◌∙◌, ◌≡◌, ap}
+use Prim.Native.Nat.{◌/◌}
+use mathlib.Core.Path.{refl, sym, ◌∙◌, ap}
 use native.Mathlib.Omega.{arith}
 use borrow.Author.Rules.{rules}
 use Rattle.told.specs.Told.{run_of, ran_of}
@@ -13,18 +13,11 @@ use Rattle.machine.proofs.Parts.{row_of, moved, both-parts, select-parts, case-p
 use Rattle.machine.proofs.Ways.{spent-way, simple-way, both-way, select-way, case-way, while-way, for-way, left-of, ends-typed, both_ends, both-stops, paid-left, branch-action, heard-left, branch-over, branch-rest, branch-first, branch-next, select-none, select-ended, select-negative, select-branch}
 use Rattle.machine.proofs.Helpers.{told-as, paid, set-length, heard, run-same, from-same, null-told}
 use borrow.Author.Tests.{leb-true, leb-false}
-use lib.IntN.{pos}
 use lib.ListN.{length, length-set}
 use Rattle.values.proofs.Held.{held-is}
-use Rattle.model.specs.Image.{tables_of}
 use Rattle.model.specs.Bytes.{word_at}
-use Rattle.model.specs.Rows.{branch}
-use Rattle.model.specs.Decode.{action_at, list_at, branches_of}
-use Rattle.model.specs.Run.{exec_branch}
-use Rattle.actions.specs.State.{state_of}
-use Rattle.machine.specs.Running.{RunningList}
 use Rattle.machine.proofs.Arms.{case-arms, case-is, case-unknown, arm-finds, arm-action, arm-found, arm-none, arm-unsure}
-use Rattle.machine.proofs.Loops.{Whiles, while-first, while-test, while-ends, while-unsure, while-stops, while-less, while-more, Fors, for-range, for-slot, for-first, for-is, for-ends, for-unsure, slot_of, for-stops, for-less, for-more}
+use Rattle.machine.proofs.Loops.{while-first, while-test, while-ends, while-unsure, while-stops, while-less, while-more, for-range, for-slot, for-first, for-is, for-ends, for-unsure, slot_of, for-stops, for-less, for-more}
 use Rattle.machine.proofs.+run_action_run_arms_run_body_run_both_run_branches_run_case_run_for_run_select_run_while.Goals as goal
 
 pub run_action-stopped-requires : goal.run_action-stopped-requires
@@ -32,12 +25,12 @@ run_action-stopped-requires t c = omega arith
 
 pub run_action-returns-then-left-eq0 : goal.run_action-returns-then-left-eq0
 run_action-returns-then-left-eq0 t c = record {
-      told = told-by c.stopped.ensures;
-      result = spent-way c.requires.0 _ (run_of c.args.run.now) (sym c.left.ensures ∙ c.if-left-eq0.true) (told-as (run_of c.args.run.now) c.stopped.ensures.outcome);
-      run = refl;
-      store = refl;
-      values = refl;
-    }
+  told = told-by c.stopped.ensures;
+  result = spent-way c.requires.0 _ (run_of c.args.run.now) (sym c.left.ensures ∙ c.if-left-eq0.true) (told-as (run_of c.args.run.now) c.stopped.ensures.outcome);
+  run = refl;
+  store = refl;
+  values = refl;
+}
 
 pub run_action-charge-requires : goal.run_action-charge-requires
 run_action-charge-requires t c = omega (arith, c.if-left-eq0.false, c.left.ensures)
@@ -65,93 +58,93 @@ run_action-run_simple-requires t c = (simple-parts c.requires.0 c.row-w.ensures 
 
 pub run_action-returns-in-54 : goal.run_action-returns-in-54
 run_action-returns-in-54 t c = record {
-      told = c.run_both.ensures.told;
-      result = both-way c.requires.0 _ (run_of c.args.run.now) (λ z. c.if-left-eq0.false (c.left.ensures ∙ z)) (paid c.args.run.now c.charge.new.run c.requires.1 c.charge.ensures) c.row-w.ensures c.in-54.is c.run_both.ensures.result;
-      run = c.run_both.ensures.run ∙ set-length c.args.run.now _ _ _ c.charge.ensures;
-      store = c.run_both.ensures.store;
-      values = c.run_both.ensures.values;
-    }
+  told = c.run_both.ensures.told;
+  result = both-way c.requires.0 _ (run_of c.args.run.now) (λ z. c.if-left-eq0.false (c.left.ensures ∙ z)) (paid c.args.run.now c.charge.new.run c.requires.1 c.charge.ensures) c.row-w.ensures c.in-54.is c.run_both.ensures.result;
+  run = c.run_both.ensures.run ∙ set-length c.args.run.now _ _ _ c.charge.ensures;
+  store = c.run_both.ensures.store;
+  values = c.run_both.ensures.values;
+}
 
 pub run_action-returns-in-55 : goal.run_action-returns-in-55
 run_action-returns-in-55 t c = record {
-      told = c.run_select.ensures.told;
-      result = select-way c.requires.0 _ (run_of c.args.run.now) (λ z. c.if-left-eq0.false (c.left.ensures ∙ z)) (paid c.args.run.now c.charge.new.run c.requires.1 c.charge.ensures) c.row-w.ensures c.in-55.is c.run_select.ensures.result;
-      run = c.run_select.ensures.run ∙ set-length c.args.run.now _ _ _ c.charge.ensures;
-      store = c.run_select.ensures.store;
-      values = c.run_select.ensures.values;
-    }
+  told = c.run_select.ensures.told;
+  result = select-way c.requires.0 _ (run_of c.args.run.now) (λ z. c.if-left-eq0.false (c.left.ensures ∙ z)) (paid c.args.run.now c.charge.new.run c.requires.1 c.charge.ensures) c.row-w.ensures c.in-55.is c.run_select.ensures.result;
+  run = c.run_select.ensures.run ∙ set-length c.args.run.now _ _ _ c.charge.ensures;
+  store = c.run_select.ensures.store;
+  values = c.run_select.ensures.values;
+}
 
 pub run_action-returns-in-56 : goal.run_action-returns-in-56
 run_action-returns-in-56 t c = record {
-      told = c.run_case.ensures.told;
-      result = case-way c.requires.0 _ (run_of c.args.run.now) (λ z. c.if-left-eq0.false (c.left.ensures ∙ z)) (paid c.args.run.now c.charge.new.run c.requires.1 c.charge.ensures) c.row-w.ensures c.in-56.is c.run_case.ensures.result;
-      run = c.run_case.ensures.run ∙ set-length c.args.run.now _ _ _ c.charge.ensures;
-      store = c.run_case.ensures.store;
-      values = c.run_case.ensures.values;
-    }
+  told = c.run_case.ensures.told;
+  result = case-way c.requires.0 _ (run_of c.args.run.now) (λ z. c.if-left-eq0.false (c.left.ensures ∙ z)) (paid c.args.run.now c.charge.new.run c.requires.1 c.charge.ensures) c.row-w.ensures c.in-56.is c.run_case.ensures.result;
+  run = c.run_case.ensures.run ∙ set-length c.args.run.now _ _ _ c.charge.ensures;
+  store = c.run_case.ensures.store;
+  values = c.run_case.ensures.values;
+}
 
 pub run_action-returns-in-59 : goal.run_action-returns-in-59
 run_action-returns-in-59 t c = record {
-      told = c.run_while.ensures.told;
-      result = while-way c.requires.0 _ (run_of c.args.run.now) (λ z. c.if-left-eq0.false (c.left.ensures ∙ z)) (paid c.args.run.now c.charge.new.run c.requires.1 c.charge.ensures) c.row-w.ensures c.in-59.is c.run_while.ensures.result;
-      run = c.run_while.ensures.run ∙ set-length c.args.run.now _ _ _ c.charge.ensures;
-      store = c.run_while.ensures.store;
-      values = c.run_while.ensures.values;
-    }
+  told = c.run_while.ensures.told;
+  result = while-way c.requires.0 _ (run_of c.args.run.now) (λ z. c.if-left-eq0.false (c.left.ensures ∙ z)) (paid c.args.run.now c.charge.new.run c.requires.1 c.charge.ensures) c.row-w.ensures c.in-59.is c.run_while.ensures.result;
+  run = c.run_while.ensures.run ∙ set-length c.args.run.now _ _ _ c.charge.ensures;
+  store = c.run_while.ensures.store;
+  values = c.run_while.ensures.values;
+}
 
 pub run_action-returns-in-60 : goal.run_action-returns-in-60
 run_action-returns-in-60 t c = record {
-      told = c.run_for.ensures.told;
-      result = for-way c.requires.0 _ (run_of c.args.run.now) (λ z. c.if-left-eq0.false (c.left.ensures ∙ z)) (paid c.args.run.now c.charge.new.run c.requires.1 c.charge.ensures) c.row-w.ensures c.in-60.is c.run_for.ensures.result;
-      run = c.run_for.ensures.run ∙ set-length c.args.run.now _ _ _ c.charge.ensures;
-      store = c.run_for.ensures.store;
-      values = c.run_for.ensures.values;
-    }
+  told = c.run_for.ensures.told;
+  result = for-way c.requires.0 _ (run_of c.args.run.now) (λ z. c.if-left-eq0.false (c.left.ensures ∙ z)) (paid c.args.run.now c.charge.new.run c.requires.1 c.charge.ensures) c.row-w.ensures c.in-60.is c.run_for.ensures.result;
+  run = c.run_for.ensures.run ∙ set-length c.args.run.now _ _ _ c.charge.ensures;
+  store = c.run_for.ensures.store;
+  values = c.run_for.ensures.values;
+}
 
 pub run_action-returns-in_default : goal.run_action-returns-in_default
 run_action-returns-in_default t c = record {
-      told = c.run_simple.ensures.told;
-      result = simple-way c.requires.0 _ (run_of c.args.run.now) (λ z. c.if-left-eq0.false (c.left.ensures ∙ z)) (paid c.args.run.now c.charge.new.run c.requires.1 c.charge.ensures) c.run_simple.ensures.result;
-      run = c.run_simple.ensures.run ∙ set-length c.args.run.now _ _ _ c.charge.ensures;
-      store = c.run_simple.ensures.store;
-      values = c.run_simple.ensures.values;
-    }
+  told = c.run_simple.ensures.told;
+  result = simple-way c.requires.0 _ (run_of c.args.run.now) (λ z. c.if-left-eq0.false (c.left.ensures ∙ z)) (paid c.args.run.now c.charge.new.run c.requires.1 c.charge.ensures) c.run_simple.ensures.result;
+  run = c.run_simple.ensures.run ∙ set-length c.args.run.now _ _ _ c.charge.ensures;
+  store = c.run_simple.ensures.store;
+  values = c.run_simple.ensures.values;
+}
 
 pub run_both-run_action-n-requires : goal.run_both-run_action-n-requires
 run_both-run_action-n-requires t c = (omega (arith, c.decreases), (c.requires.0.0, c.requires.1))
 
 pub run_both-returns-then-n-ne-ENDS : goal.run_both-returns-then-n-ne-ENDS
 run_both-returns-then-n-ne-ENDS t c = record {
-      told = c.run_action-n.ensures.told;
-      result = both-stops _ c.run_action-n.ensures.result (out-over _ c.if-n-ne-ENDS.true);
-      run = c.run_action-n.ensures.run;
-      store = c.run_action-n.ensures.store;
-      values = c.run_action-n.ensures.values;
-    }
+  told = c.run_action-n.ensures.told;
+  result = both-stops _ c.run_action-n.ensures.result (out-over _ c.if-n-ne-ENDS.true);
+  run = c.run_action-n.ensures.run;
+  store = c.run_action-n.ensures.store;
+  values = c.run_action-n.ensures.values;
+}
 
 pub run_both-run_action-requires : goal.run_both-run_action-requires
 run_both-run_action-requires t c = (omega (arith, c.decreases, left-of c.requires.0.0 _ (run_of c.args.run.now) (ran_of c.run_action-n.result c.run_action-n.new.run) _ _ c.run_action-n.ensures.result), (moved c.requires.0.1 (ends-typed c.requires.0.0 _ (run_of c.args.run.now) (ran_of c.run_action-n.result c.run_action-n.new.run) _ _ c.run_action-n.ensures.result (sym (ends_at _ c.if-n-ne-ENDS.false))) c.run_action-n.ensures.values, omega (arith, c.run_action-n.ensures.run, c.requires.1)))
 
 pub run_both-returns : goal.run_both-returns
 run_both-returns t c = record {
-      told = c.run_action.ensures.told;
-      result = both_ends _ c.run_action-n.ensures.result (sym (ends_at _ c.if-n-ne-ENDS.false)) c.run_action.ensures.result;
-      run = c.run_action.ensures.run ∙ c.run_action-n.ensures.run;
-      store = c.run_action.ensures.store ∙ c.run_action-n.ensures.store;
-      values = c.run_action.ensures.values ∙ c.run_action-n.ensures.values;
-    }
+  told = c.run_action.ensures.told;
+  result = both_ends _ c.run_action-n.ensures.result (sym (ends_at _ c.if-n-ne-ENDS.false)) c.run_action.ensures.result;
+  run = c.run_action.ensures.run ∙ c.run_action-n.ensures.run;
+  store = c.run_action.ensures.store ∙ c.run_action-n.ensures.store;
+  values = c.run_action.ensures.values ∙ c.run_action-n.ensures.values;
+}
 
 pub run_select-blocked-requires : goal.run_select-blocked-requires
 run_select-blocked-requires t c = search rules
 
 pub run_select-returns-then-a-eq-NONE : goal.run_select-returns-then-a-eq-NONE
 run_select-returns-then-a-eq-NONE t c = record {
-      told = told-by c.blocked.ensures;
-      result = select-none c.requires.0 _ _ (run_of c.args.run.now) c.if-a-eq-NONE.true (told-as (run_of c.args.run.now) c.blocked.ensures.outcome);
-      run = refl;
-      store = refl;
-      values = refl;
-    }
+  told = told-by c.blocked.ensures;
+  result = select-none c.requires.0 _ _ (run_of c.args.run.now) c.if-a-eq-NONE.true (told-as (run_of c.args.run.now) c.blocked.ensures.outcome);
+  run = refl;
+  store = refl;
+  values = refl;
+}
 
 pub run_select-words-k-requires : goal.run_select-words-k-requires
 run_select-words-k-requires t c = search rules
@@ -164,12 +157,12 @@ run_select-stopped-requires t c = omega arith
 
 pub run_select-returns-then-no_word : goal.run_select-returns-then-no_word
 run_select-returns-then-no_word t c = record {
-      told = told-by c.stopped.ensures;
-      result = select-ended c.requires.0 _ _ (run_of c.args.run.now) c.if-a-eq-NONE.false (omega (arith, (leb-true (length c.args.script.now.now / 4) c.words-k.result (sym c.no_word.ensures.0 ∙ c.if-no_word.true)), c.words-k.ensures)) (told-as (run_of c.args.run.now) c.stopped.ensures.outcome);
-      run = refl;
-      store = refl;
-      values = refl;
-    }
+  told = told-by c.stopped.ensures;
+  result = select-ended c.requires.0 _ _ (run_of c.args.run.now) c.if-a-eq-NONE.false (omega (arith, (leb-true (length c.args.script.now.now / 4) c.words-k.result (sym c.no_word.ensures.0 ∙ c.if-no_word.true)), c.words-k.ensures)) (told-as (run_of c.args.run.now) c.stopped.ensures.outcome);
+  run = refl;
+  store = refl;
+  values = refl;
+}
 
 pub run_select-word-z-requires : goal.run_select-word-z-requires
 run_select-word-z-requires t c = omega (arith, (leb-false (length c.args.script.now.now / 4) c.words-k.result (sym c.no_word.ensures.0 ∙ c.if-no_word.false)))
@@ -182,12 +175,12 @@ run_select-stopped-requires-then-z-lt0 t c = omega arith
 
 pub run_select-returns-then-z-lt0 : goal.run_select-returns-then-z-lt0
 run_select-returns-then-z-lt0 t c = record {
-      told = told-by c.stopped-then-z-lt0.ensures;
-      result = select-negative c.requires.0 _ _ (run_of c.args.run.now) c.if-a-eq-NONE.false (omega (arith, (leb-false (length c.args.script.now.now / 4) c.words-k.result (sym c.no_word.ensures.0 ∙ c.if-no_word.false)), c.words-k.ensures)) (held-is c.word-z.result c.word-z.type_inv ∙ c.word-z.ensures ∙ ap (word_at c.args.script.now.now) c.words-k.ensures) (heard c.args.run.now c.hear.new.run c.requires.1 c.hear.ensures) c.if-z-lt0.true (told-as (run_of c.hear.new.run) c.stopped-then-z-lt0.ensures.outcome);
-      run = set-length c.args.run.now _ _ _ c.hear.ensures;
-      store = refl;
-      values = refl;
-    }
+  told = told-by c.stopped-then-z-lt0.ensures;
+  result = select-negative c.requires.0 _ _ (run_of c.args.run.now) c.if-a-eq-NONE.false (omega (arith, (leb-false (length c.args.script.now.now / 4) c.words-k.result (sym c.no_word.ensures.0 ∙ c.if-no_word.false)), c.words-k.ensures)) (held-is c.word-z.result c.word-z.type_inv ∙ c.word-z.ensures ∙ ap (word_at c.args.script.now.now) c.words-k.ensures) (heard c.args.run.now c.hear.new.run c.requires.1 c.hear.ensures) c.if-z-lt0.true (told-as (run_of c.hear.new.run) c.stopped-then-z-lt0.ensures.outcome);
+  run = set-length c.args.run.now _ _ _ c.hear.ensures;
+  store = refl;
+  values = refl;
+}
 
 pub run_select-size-requires : goal.run_select-size-requires
 run_select-size-requires t c = search rules
@@ -197,12 +190,12 @@ run_select-run_branches-requires t c = (omega (arith, c.decreases, heard-left (r
 
 pub run_select-returns : goal.run_select-returns
 run_select-returns t c = record {
-      told = c.run_branches.ensures.told;
-      result = select-branch c.requires.0 _ _ (run_of c.args.run.now) c.if-a-eq-NONE.false (omega (arith, (leb-false (length c.args.script.now.now / 4) c.words-k.result (sym c.no_word.ensures.0 ∙ c.if-no_word.false)), c.words-k.ensures)) (held-is c.word-z.result c.word-z.type_inv ∙ c.word-z.ensures ∙ ap (word_at c.args.script.now.now) c.words-k.ensures) (heard c.args.run.now c.hear.new.run c.requires.1 c.hear.ensures) c.if-z-lt0.false c.size.ensures c.run_branches.ensures.result;
-      run = c.run_branches.ensures.run ∙ set-length c.args.run.now _ _ _ c.hear.ensures;
-      store = c.run_branches.ensures.store;
-      values = c.run_branches.ensures.values;
-    }
+  told = c.run_branches.ensures.told;
+  result = select-branch c.requires.0 _ _ (run_of c.args.run.now) c.if-a-eq-NONE.false (omega (arith, (leb-false (length c.args.script.now.now / 4) c.words-k.result (sym c.no_word.ensures.0 ∙ c.if-no_word.false)), c.words-k.ensures)) (held-is c.word-z.result c.word-z.type_inv ∙ c.word-z.ensures ∙ ap (word_at c.args.script.now.now) c.words-k.ensures) (heard c.args.run.now c.hear.new.run c.requires.1 c.hear.ensures) c.if-z-lt0.false c.size.ensures c.run_branches.ensures.result;
+  run = c.run_branches.ensures.run ∙ set-length c.args.run.now _ _ _ c.hear.ensures;
+  store = c.run_branches.ensures.store;
+  values = c.run_branches.ensures.values;
+}
 
 pub run_branches-loop-here-init : goal.run_branches-loop-here-init
 run_branches-loop-here-init t c = (refl, refl, refl, c.requires.0, refl)
@@ -212,12 +205,12 @@ run_branches-stopped-requires t c = omega arith
 
 pub run_branches-returns-then-here : goal.run_branches-returns-then-here
 run_branches-returns-then-here t c = record {
-      told = told-by c.stopped.ensures;
-      result = branch-over c.loop-here.invariant.3 _ _ _ _ c.if-here.true (run-same (told-as _ c.stopped.ensures.outcome) c.loop-here.invariant.0 c.loop-here.invariant.1 c.loop-here.invariant.2) ∙ c.loop-here.invariant.4;
-      run = ap length c.loop-here.invariant.2;
-      store = ap length c.loop-here.invariant.0;
-      values = ap length c.loop-here.invariant.1;
-    }
+  told = told-by c.stopped.ensures;
+  result = branch-over c.loop-here.invariant.3 _ _ _ _ c.if-here.true (run-same (told-as _ c.stopped.ensures.outcome) c.loop-here.invariant.0 c.loop-here.invariant.1 c.loop-here.invariant.2) ∙ c.loop-here.invariant.4;
+  run = ap length c.loop-here.invariant.2;
+  store = ap length c.loop-here.invariant.0;
+  values = ap length c.loop-here.invariant.1;
+}
 
 pub run_branches-row-w-requires : goal.run_branches-row-w-requires
 run_branches-row-w-requires t c = first-row c.loop-here.invariant.3 refl c.if-here.false
@@ -227,12 +220,12 @@ run_branches-run_action-requires t c = (omega (arith, c.decreases, ap (λ l. (ru
 
 pub run_branches-returns-then-ahead-eq0 : goal.run_branches-returns-then-ahead-eq0
 run_branches-returns-then-ahead-eq0 t c = record {
-      told = c.run_action.ensures.told;
-      result = branch-first c.loop-here.invariant.3 _ _ _ c.if-here.false c.row-w.ensures c.if-ahead-eq0.true (c.run_action.ensures.result ∙ from-same _ _ _ c.loop-here.invariant.0 c.loop-here.invariant.1 c.loop-here.invariant.2) ∙ c.loop-here.invariant.4;
-      run = c.run_action.ensures.run ∙ ap length c.loop-here.invariant.2;
-      store = c.run_action.ensures.store ∙ ap length c.loop-here.invariant.0;
-      values = c.run_action.ensures.values ∙ ap length c.loop-here.invariant.1;
-    }
+  told = c.run_action.ensures.told;
+  result = branch-first c.loop-here.invariant.3 _ _ _ c.if-here.false c.row-w.ensures c.if-ahead-eq0.true (c.run_action.ensures.result ∙ from-same _ _ _ c.loop-here.invariant.0 c.loop-here.invariant.1 c.loop-here.invariant.2) ∙ c.loop-here.invariant.4;
+  run = c.run_action.ensures.run ∙ ap length c.loop-here.invariant.2;
+  store = c.run_action.ensures.store ∙ ap length c.loop-here.invariant.0;
+  values = c.run_action.ensures.values ∙ ap length c.loop-here.invariant.1;
+}
 
 pub run_branches-overflow_sub-ahead : goal.run_branches-overflow_sub-ahead
 run_branches-overflow_sub-ahead t c = omega (arith, c.if-ahead-eq0.false)
@@ -263,21 +256,21 @@ run_case-stopped-requires t c = omega arith
 
 pub run_case-returns-in-Is : goal.run_case-returns-in-Is
 run_case-returns-in-Is t c = record {
-      told = c.run_arms.ensures.told;
-      result = case-is c.requires.0 _ _ (run_of c.args.run.now) c.eval_on.ensures.0 c.in-Is.is (rw c.eval_on.ensures.1 at c.run_arms.ensures.result);
-      run = c.run_arms.ensures.run;
-      store = c.run_arms.ensures.store ∙ ap length c.eval_on.ensures.1;
-      values = c.run_arms.ensures.values;
-    }
+  told = c.run_arms.ensures.told;
+  result = case-is c.requires.0 _ _ (run_of c.args.run.now) c.eval_on.ensures.0 c.in-Is.is (rw c.eval_on.ensures.1 at c.run_arms.ensures.result);
+  run = c.run_arms.ensures.run;
+  store = c.run_arms.ensures.store ∙ ap length c.eval_on.ensures.1;
+  values = c.run_arms.ensures.values;
+}
 
 pub run_case-returns-in-Unknown : goal.run_case-returns-in-Unknown
 run_case-returns-in-Unknown t c = record {
-      told = told-by c.stopped.ensures;
-      result = rw c.eval_on.ensures.1 (case-unknown c.requires.0 _ _ (run_of c.args.run.now) c.eval_on.ensures.0 c.in-Unknown.is (told-as (run_of c.args.run.now) c.stopped.ensures.outcome));
-      run = refl;
-      store = ap length c.eval_on.ensures.1;
-      values = refl;
-    }
+  told = told-by c.stopped.ensures;
+  result = rw c.eval_on.ensures.1 (case-unknown c.requires.0 _ _ (run_of c.args.run.now) c.eval_on.ensures.0 c.in-Unknown.is (told-as (run_of c.args.run.now) c.stopped.ensures.outcome));
+  run = refl;
+  store = ap length c.eval_on.ensures.1;
+  values = refl;
+}
 
 pub run_arms-slice_bounds-find_arm-end : goal.run_arms-slice_bounds-find_arm-end
 run_arms-slice_bounds-find_arm-end t c = search rules
@@ -305,30 +298,30 @@ run_arms-stopped-requires t c = omega arith
 
 pub run_arms-returns-in-Arm : goal.run_arms-returns-in-Arm
 run_arms-returns-in-Arm t c = record {
-      told = c.run_action.ensures.told;
-      result = arm-found c.requires.0 c.find_arm.ensures _ _ (run_of c.args.run.now) c.in-Arm.is c.run_action.ensures.result;
-      run = c.run_action.ensures.run;
-      store = c.run_action.ensures.store ∙ c.find_arm.auto.store;
-      values = c.run_action.ensures.values;
-    }
+  told = c.run_action.ensures.told;
+  result = arm-found c.requires.0 c.find_arm.ensures _ _ (run_of c.args.run.now) c.in-Arm.is c.run_action.ensures.result;
+  run = c.run_action.ensures.run;
+  store = c.run_action.ensures.store ∙ c.find_arm.auto.store;
+  values = c.run_action.ensures.values;
+}
 
 pub run_arms-returns-in-NoArm : goal.run_arms-returns-in-NoArm
 run_arms-returns-in-NoArm t c = record {
-      told = told-by c.blocked.ensures;
-      result = arm-none c.requires.0 c.find_arm.ensures _ _ (run_of c.args.run.now) c.in-NoArm.is (told-as (run_of c.args.run.now) c.blocked.ensures.outcome);
-      run = refl;
-      store = c.find_arm.auto.store;
-      values = refl;
-    }
+  told = told-by c.blocked.ensures;
+  result = arm-none c.requires.0 c.find_arm.ensures _ _ (run_of c.args.run.now) c.in-NoArm.is (told-as (run_of c.args.run.now) c.blocked.ensures.outcome);
+  run = refl;
+  store = c.find_arm.auto.store;
+  values = refl;
+}
 
 pub run_arms-returns-in-Unsure : goal.run_arms-returns-in-Unsure
 run_arms-returns-in-Unsure t c = record {
-      told = told-by c.stopped.ensures;
-      result = arm-unsure c.requires.0 c.find_arm.ensures _ _ (run_of c.args.run.now) c.in-Unsure.is (told-as (run_of c.args.run.now) c.stopped.ensures.outcome);
-      run = refl;
-      store = c.find_arm.auto.store;
-      values = refl;
-    }
+  told = told-by c.stopped.ensures;
+  result = arm-unsure c.requires.0 c.find_arm.ensures _ _ (run_of c.args.run.now) c.in-Unsure.is (told-as (run_of c.args.run.now) c.stopped.ensures.outcome);
+  run = refl;
+  store = c.find_arm.auto.store;
+  values = refl;
+}
 
 pub run_body-row-w-requires : goal.run_body-row-w-requires
 run_body-row-w-requires t c = row_of c.requires.0 refl
@@ -344,24 +337,24 @@ run_body-stopped-requires t c = omega arith
 
 pub run_body-returns-then-left-eq0 : goal.run_body-returns-then-left-eq0
 run_body-returns-then-left-eq0 t c = record {
-      told = told-by c.stopped.ensures;
-      result = spent-way c.requires.0 _ (run_of c.args.run.now) (sym c.left.ensures ∙ c.if-left-eq0.true) (told-as (run_of c.args.run.now) c.stopped.ensures.outcome);
-      run = refl;
-      store = refl;
-      values = refl;
-    }
+  told = told-by c.stopped.ensures;
+  result = spent-way c.requires.0 _ (run_of c.args.run.now) (sym c.left.ensures ∙ c.if-left-eq0.true) (told-as (run_of c.args.run.now) c.stopped.ensures.outcome);
+  run = refl;
+  store = refl;
+  values = refl;
+}
 
 pub run_body-charge-requires : goal.run_body-charge-requires
 run_body-charge-requires t c = omega (arith, c.if-left-eq0.false, c.left.ensures)
 
 pub run_body-returns : goal.run_body-returns
 run_body-returns t c = record {
-      told = told-ends;
-      result = simple-way c.requires.0 _ (run_of c.args.run.now) (λ z. c.if-left-eq0.false (c.left.ensures ∙ z)) (paid c.args.run.now c.charge.new.run c.requires.1 c.charge.ensures) (null-told (runs c.requires.0) c.row-w.ensures c.charge.new.run c.args.values.now c.args.script.now.now c.if-w-ne48.false);
-      run = set-length c.args.run.now _ _ _ c.charge.ensures;
-      store = refl;
-      values = refl;
-    }
+  told = told-ends;
+  result = simple-way c.requires.0 _ (run_of c.args.run.now) (λ z. c.if-left-eq0.false (c.left.ensures ∙ z)) (paid c.args.run.now c.charge.new.run c.requires.1 c.charge.ensures) (null-told (runs c.requires.0) c.row-w.ensures c.charge.new.run c.args.values.now c.args.script.now.now c.if-w-ne48.false);
+  run = set-length c.args.run.now _ _ _ c.charge.ensures;
+  store = refl;
+  values = refl;
+}
 
 pub run_while-loop-store-init : goal.run_while-loop-store-init
 run_while-loop-store-init t c = (while-first c.args.script.now.now (run_of c.args.run.now) c.requires.0, refl)
@@ -371,24 +364,24 @@ run_while-test_on-requires t c = while-test c.loop-store.invariant.0
 
 pub run_while-returns-in-Fails : goal.run_while-returns-in-Fails
 run_while-returns-in-Fails t c = record {
-      told = told-ends;
-      result = rw c.test_on.ensures.1 (while-ends c.loop-store.invariant.0 c.test_on.ensures.0 c.in-Fails.is (told-as (run_of c.loop-store.run) out-ends));
-      run = c.loop-store.invariant.1;
-      store = ap length c.test_on.ensures.1 ∙ c.loop-store.invariant.0.store;
-      values = c.loop-store.invariant.0.buffer;
-    }
+  told = told-ends;
+  result = rw c.test_on.ensures.1 (while-ends c.loop-store.invariant.0 c.test_on.ensures.0 c.in-Fails.is (told-as (run_of c.loop-store.run) out-ends));
+  run = c.loop-store.invariant.1;
+  store = ap length c.test_on.ensures.1 ∙ c.loop-store.invariant.0.store;
+  values = c.loop-store.invariant.0.buffer;
+}
 
 pub run_while-stopped-requires : goal.run_while-stopped-requires
 run_while-stopped-requires t c = omega arith
 
 pub run_while-returns-in-Unsure : goal.run_while-returns-in-Unsure
 run_while-returns-in-Unsure t c = record {
-      told = told-by c.stopped.ensures;
-      result = rw c.test_on.ensures.1 (while-unsure c.loop-store.invariant.0 c.test_on.ensures.0 c.in-Unsure.is (told-as (run_of c.loop-store.run) c.stopped.ensures.outcome));
-      run = c.loop-store.invariant.1;
-      store = ap length c.test_on.ensures.1 ∙ c.loop-store.invariant.0.store;
-      values = c.loop-store.invariant.0.buffer;
-    }
+  told = told-by c.stopped.ensures;
+  result = rw c.test_on.ensures.1 (while-unsure c.loop-store.invariant.0 c.test_on.ensures.0 c.in-Unsure.is (told-as (run_of c.loop-store.run) c.stopped.ensures.outcome));
+  run = c.loop-store.invariant.1;
+  store = ap length c.test_on.ensures.1 ∙ c.loop-store.invariant.0.store;
+  values = c.loop-store.invariant.0.buffer;
+}
 
 pub run_while-run_body-p-requires : goal.run_while-run_body-p-requires
 run_while-run_body-p-requires t c = (omega (arith, c.decreases, c.loop-store.invariant.0.less), (rw c.test_on.ensures.1 c.loop-store.invariant.0.going.body, omega (arith, c.loop-store.invariant.1, c.requires.1)))
@@ -398,12 +391,12 @@ run_while-again-n-requires t c = (c.run_body-p.ensures.told, omega (arith, c.run
 
 pub run_while-returns-then-n-ne-ENDS : goal.run_while-returns-then-n-ne-ENDS
 run_while-returns-then-n-ne-ENDS t c = record {
-      told = c.again-n.ensures.0;
-      result = while-stops c.loop-store.invariant.0 c.test_on.ensures.0 c.in-Holds.is _ _ c.again-n.ensures.1 (rw c.test_on.ensures.1 at c.run_body-p.ensures.result) (out-over _ c.if-n-ne-ENDS.true);
-      run = c.again-n.ensures.2 ∙ c.run_body-p.ensures.run ∙ c.loop-store.invariant.1;
-      store = c.run_body-p.ensures.store ∙ ap length c.test_on.ensures.1 ∙ c.loop-store.invariant.0.store;
-      values = c.run_body-p.ensures.values ∙ c.loop-store.invariant.0.buffer;
-    }
+  told = c.again-n.ensures.0;
+  result = while-stops c.loop-store.invariant.0 c.test_on.ensures.0 c.in-Holds.is _ _ c.again-n.ensures.1 (rw c.test_on.ensures.1 at c.run_body-p.ensures.result) (out-over _ c.if-n-ne-ENDS.true);
+  run = c.again-n.ensures.2 ∙ c.run_body-p.ensures.run ∙ c.loop-store.invariant.1;
+  store = c.run_body-p.ensures.store ∙ ap length c.test_on.ensures.1 ∙ c.loop-store.invariant.0.store;
+  values = c.run_body-p.ensures.values ∙ c.loop-store.invariant.0.buffer;
+}
 
 pub run_while-loop-store-smaller : goal.run_while-loop-store-smaller
 run_while-loop-store-smaller t c = while-less c.loop-store.invariant.0 c.test_on.ensures.0 c.in-Holds.is _ _ c.again-n.ensures.1 (rw c.test_on.ensures.1 at c.run_body-p.ensures.result) (sym (ends_at _ c.if-n-ne-ENDS.false))
@@ -425,24 +418,24 @@ run_for-at_most-requires t c = for-slot c.loop-store.invariant.0.going c.row-w.e
 
 pub run_for-returns-in-Fails : goal.run_for-returns-in-Fails
 run_for-returns-in-Fails t c = record {
-      told = told-ends;
-      result = for-is c.requires.0 _ (run_of c.args.run.now) c.row-w.ensures (held-is c.signed.result c.signed.type_inv ∙ c.signed.ensures) (rw c.at_most.ensures.1 (for-ends c.loop-store.invariant.0 c.row-w.ensures (held-is c.signed-high.result c.signed-high.type_inv ∙ c.signed-high.ensures) c.at_most.ensures.0 c.in-Fails.is (told-as (run_of c.loop-store.run) out-ends)));
-      run = c.loop-store.invariant.1;
-      store = ap length c.at_most.ensures.1 ∙ c.loop-store.invariant.0.store ∙ simp length-set;
-      values = c.loop-store.invariant.0.buffer;
-    }
+  told = told-ends;
+  result = for-is c.requires.0 _ (run_of c.args.run.now) c.row-w.ensures (held-is c.signed.result c.signed.type_inv ∙ c.signed.ensures) (rw c.at_most.ensures.1 (for-ends c.loop-store.invariant.0 c.row-w.ensures (held-is c.signed-high.result c.signed-high.type_inv ∙ c.signed-high.ensures) c.at_most.ensures.0 c.in-Fails.is (told-as (run_of c.loop-store.run) out-ends)));
+  run = c.loop-store.invariant.1;
+  store = ap length c.at_most.ensures.1 ∙ c.loop-store.invariant.0.store ∙ simp length-set;
+  values = c.loop-store.invariant.0.buffer;
+}
 
 pub run_for-stopped-requires : goal.run_for-stopped-requires
 run_for-stopped-requires t c = omega arith
 
 pub run_for-returns-in-Unsure : goal.run_for-returns-in-Unsure
 run_for-returns-in-Unsure t c = record {
-      told = told-by c.stopped.ensures;
-      result = for-is c.requires.0 _ (run_of c.args.run.now) c.row-w.ensures (held-is c.signed.result c.signed.type_inv ∙ c.signed.ensures) (rw c.at_most.ensures.1 (for-unsure c.loop-store.invariant.0 c.row-w.ensures (held-is c.signed-high.result c.signed-high.type_inv ∙ c.signed-high.ensures) c.at_most.ensures.0 c.in-Unsure.is (told-as (run_of c.loop-store.run) c.stopped.ensures.outcome)));
-      run = c.loop-store.invariant.1;
-      store = ap length c.at_most.ensures.1 ∙ c.loop-store.invariant.0.store ∙ simp length-set;
-      values = c.loop-store.invariant.0.buffer;
-    }
+  told = told-by c.stopped.ensures;
+  result = for-is c.requires.0 _ (run_of c.args.run.now) c.row-w.ensures (held-is c.signed.result c.signed.type_inv ∙ c.signed.ensures) (rw c.at_most.ensures.1 (for-unsure c.loop-store.invariant.0 c.row-w.ensures (held-is c.signed-high.result c.signed-high.type_inv ∙ c.signed-high.ensures) c.at_most.ensures.0 c.in-Unsure.is (told-as (run_of c.loop-store.run) c.stopped.ensures.outcome)));
+  run = c.loop-store.invariant.1;
+  store = ap length c.at_most.ensures.1 ∙ c.loop-store.invariant.0.store ∙ simp length-set;
+  values = c.loop-store.invariant.0.buffer;
+}
 
 pub run_for-run_body-p-requires : goal.run_for-run_body-p-requires
 run_for-run_body-p-requires t c = (omega (arith, c.decreases, c.loop-store.invariant.0.less), (rw c.at_most.ensures.1 c.loop-store.invariant.0.going.body, omega (arith, c.loop-store.invariant.1, c.requires.1)))
@@ -455,12 +448,12 @@ run_for-again-n-requires t c = (c.onward-o.ensures.0, omega (arith, c.run_body-p
 
 pub run_for-returns-then-n-ne-ENDS : goal.run_for-returns-then-n-ne-ENDS
 run_for-returns-then-n-ne-ENDS t c = record {
-      told = c.again-n.ensures.0;
-      result = for-is c.requires.0 _ (run_of c.args.run.now) c.row-w.ensures (held-is c.signed.result c.signed.type_inv ∙ c.signed.ensures) (for-stops c.loop-store.invariant.0 c.row-w.ensures _ _ (ran_of c.run_body-p.result c.run_body-p.new.run) (rw c.at_most.ensures.1 at c.run_body-p.ensures.result) (held-is c.signed-high.result c.signed-high.type_inv ∙ c.signed-high.ensures) c.at_most.ensures.0 c.in-Holds.is _ c.onward-o.ensures.1 c.again-n.ensures.1 (out-over _ c.if-n-ne-ENDS.true));
-      run = c.again-n.ensures.2 ∙ c.run_body-p.ensures.run ∙ c.loop-store.invariant.1;
-      store = c.onward-o.auto.store ∙ c.run_body-p.ensures.store ∙ ap length c.at_most.ensures.1 ∙ c.loop-store.invariant.0.store ∙ simp length-set;
-      values = c.run_body-p.ensures.values ∙ c.loop-store.invariant.0.buffer;
-    }
+  told = c.again-n.ensures.0;
+  result = for-is c.requires.0 _ (run_of c.args.run.now) c.row-w.ensures (held-is c.signed.result c.signed.type_inv ∙ c.signed.ensures) (for-stops c.loop-store.invariant.0 c.row-w.ensures _ _ (ran_of c.run_body-p.result c.run_body-p.new.run) (rw c.at_most.ensures.1 at c.run_body-p.ensures.result) (held-is c.signed-high.result c.signed-high.type_inv ∙ c.signed-high.ensures) c.at_most.ensures.0 c.in-Holds.is _ c.onward-o.ensures.1 c.again-n.ensures.1 (out-over _ c.if-n-ne-ENDS.true));
+  run = c.again-n.ensures.2 ∙ c.run_body-p.ensures.run ∙ c.loop-store.invariant.1;
+  store = c.onward-o.auto.store ∙ c.run_body-p.ensures.store ∙ ap length c.at_most.ensures.1 ∙ c.loop-store.invariant.0.store ∙ simp length-set;
+  values = c.run_body-p.ensures.values ∙ c.loop-store.invariant.0.buffer;
+}
 
 pub run_for-loop-store-smaller : goal.run_for-loop-store-smaller
 run_for-loop-store-smaller t c = for-less c.loop-store.invariant.0 c.row-w.ensures _ _ (ran_of c.run_body-p.result c.run_body-p.new.run) (rw c.at_most.ensures.1 at c.run_body-p.ensures.result) (held-is c.signed-high.result c.signed-high.type_inv ∙ c.signed-high.ensures) c.at_most.ensures.0 c.in-Holds.is _ c.onward-o.ensures.1 c.again-n.ensures.1 (sym (ends_at _ c.if-n-ne-ENDS.false))

@@ -3,28 +3,18 @@
 -- Select and case: the needs of the cycle's proof. Assumes nothing.
 -- What the functions of the cycle promise each other, by units and rows that fall. Assumes nothing.
 -- While and for: the needs of the cycle's proof. Assumes nothing.
-use Prim.Native.Nat.{◌+◌, ℕ, ◌/◌, ◌%◌, ◌*◌, ◌<◌}
-use mathlib.Core.Path.{refl, sym, ◌∙◌, ◌≡◌, ap}
-use native.Mathlib.Omega.{arith}
-use borrow.Author.Rules.{rules}
-use Rattle.told.specs.Told.{run_of, ran_of}
-use Rattle.told.proofs.Coded.{ends_at, out-over, told-by, out-ends, told-ends}
-use Rattle.machine.proofs.Parts.{row_of, moved, both-parts, select-parts, case-parts, while-parts, for-parts, simple-parts, runs, same_store, first-row}
-use Rattle.machine.proofs.Ways.{spent-way, simple-way, both-way, select-way, case-way, while-way, for-way, left-of, ends-typed, both_ends, both-stops, paid-left, branch-action, heard-left, branch-over, branch-rest, branch-first, branch-next, select-none, select-ended, select-negative, select-branch}
-use Rattle.machine.proofs.Helpers.{told-as, paid, set-length, heard, run-same, from-same, null-told}
-use borrow.Author.Tests.{leb-true, leb-false}
+use Prim.Native.Nat.{◌+◌, ◌%◌, ◌*◌}
+use mathlib.Core.Path.{◌≡◌}
+use Rattle.told.specs.Told.{run_of}
 use lib.IntN.{pos}
-use lib.ListN.{length, length-set}
-use Rattle.values.proofs.Held.{held-is}
+use lib.ListN.{length}
 use Rattle.model.specs.Image.{tables_of}
-use Rattle.model.specs.Bytes.{word_at}
 use Rattle.model.specs.Rows.{branch}
 use Rattle.model.specs.Decode.{action_at, list_at, branches_of}
 use Rattle.model.specs.Run.{exec_branch}
 use Rattle.actions.specs.State.{state_of}
 use Rattle.machine.specs.Running.{RunningList}
-use Rattle.machine.proofs.Arms.{case-arms, case-is, case-unknown, arm-finds, arm-action, arm-found, arm-none, arm-unsure}
-use Rattle.machine.proofs.Loops.{Whiles, while-first, while-test, while-ends, while-unsure, while-stops, while-less, while-more, Fors, for-range, for-slot, for-first, for-is, for-ends, for-unsure, slot_of, for-stops, for-less, for-more}
+use Rattle.machine.proofs.Loops.{Whiles, Fors}
 use Rattle.machine.proofs.+run_action_run_arms_run_body_run_both_run_branches_run_case_run_for_run_select_run_while.Given as goal
 
 abbrev pub decreases-run_while : goal.decreases-run_while

@@ -1,10 +1,8 @@
-
 use mathlib.Core.Path.{refl, sym, ap, ◌∙◌}
 use Rattle.model.specs.declared.Outcome.{Outcome}
 use Rattle.told.specs.Told.{run_of}
 use Rattle.told.proofs.{Coded.ends_at, Coded.out-ends, Coded.out-over, Coded.told-by, Coded.told-ends, Kept.set-left}
 use Rattle.machine.proofs.{Ways.ran, Helpers.again-spent, Helpers.again-paid, Helpers.again-over, Helpers.set-length}
-use borrow.Author.Rules.{rules}
 use Rattle.machine.proofs.again.Goals as goal
 
 pub returns-then-p-ne-ENDS : goal.returns-then-p-ne-ENDS

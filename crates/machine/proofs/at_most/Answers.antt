@@ -1,7 +1,5 @@
-
 use mathlib.Core.Path.{refl}
 use Rattle.machine.proofs.Helpers.{most-unsure, most-holds, most-fails, held-most}
-use borrow.Author.Rules.{rules}
 use Rattle.machine.proofs.at_most.Goals as goal
 
 pub returns-then-z-high : goal.returns-then-z-high

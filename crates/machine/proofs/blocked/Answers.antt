@@ -1,10 +1,8 @@
-
 use mathlib.Core.{Path.ap, Path.◌∙◌, Bool.Bool, Bool.cond}
 use Rattle.model.specs.Answers.{row}
 use Rattle.model.specs.declared.{Refusal.TheVariants.Blocked, Refusal.TheVariants.BlockedSpoken, Outcome.TheVariants.Stops}
 use Rattle.machine.proofs.Helpers.{blocked-late}
 use Rattle.told.proofs.Coded.{tells_as}
-use borrow.Author.Rules.{rules}
 use Rattle.machine.proofs.blocked.Goals as goal
 
 pub stopped-requires : goal.stopped-requires

@@ -1,11 +1,9 @@
-
 use mathlib.Core.Path.{◌∙◌, sym, ap}
 use lib.IntN.{ℤ, pos}
 use Rattle.model.specs.Values.{half16, plus}
 use Rattle.values.proofs.Held.{held-is}
 use Rattle.told.proofs.Coded.{ends_at, out-ends, out-over}
 use Rattle.machine.proofs.Helpers.{onward-over, onward-unknown, onward-is, value-held, plus-range}
-use borrow.Author.Rules.{rules}
 use Rattle.told.proofs.Coded.{told-by, told-ends}
 use Rattle.machine.proofs.onward.Goals as goal
 
@@ -21,7 +19,7 @@ returns-in-Is c = (
   told-ends,
   let e = sym (ends_at c.args.p c.if-p-ne-ENDS.false) in
       onward-is _ _ e c.value.ensures out-ends c.in-Is.is (held-is c.plus.result c.plus.type_inv ∙ c.plus.ensures ∙ ap (λ (z : ℤ). plus half16 z (pos 1)) (value-held c.requires.1 e c.value.ensures c.in-Is.is)),
- )
+)
 
 pub returns-in-Unknown : goal.returns-in-Unknown
 returns-in-Unknown c =

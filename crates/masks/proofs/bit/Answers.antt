@@ -1,5 +1,4 @@
 -- `masks::bit` meets its contract. Assumes nothing.
-use borrow.Author.Rules.{rules}
 use Rattle.model.proofs.Masks.{bit-shift}
 use Rattle.masks.proofs.bit.Goals as goal
 

@@ -1,5 +1,4 @@
 -- `masks::fill` meets its contract: what it lends has an entry for each row. Assumes nothing.
-use borrow.Author.Rules.{rules}
 use native.Mathlib.Omega.{arith}
 use mathlib.Core.Path.{◌∙◌}
 use lib.ListN.{length-take}

@@ -1,10 +1,6 @@
 -- `masks::fill_rows` meets its contract. The loop's invariant: the masks of the rows below r are filled in. Assumes nothing.
-use mathlib.Core.Path.{◌≡◌}
-use Prim.Native.Nat.{◌-◌}
-use borrow.Author.Rules.{rules}
 use native.Mathlib.Omega.{arith}
-use Rattle.model.specs.Image.{row_count}
-use Rattle.masks.proofs.Filling.{Filling, begin, row_here, row_small, one_more, filled-all}
+use Rattle.masks.proofs.Filling.{begin, row_here, row_small, one_more, filled-all}
 use Rattle.masks.proofs.fill_rows.Goals as goal
 
 pub loop-r-init : goal.loop-r-init

@@ -1,5 +1,4 @@
 -- `masks::joined` meets its contract. Assumes nothing.
-use borrow.Author.Rules.{rules}
 use Rattle.model.specs.Masks.{join}
 use Rattle.masks.proofs.joined.Goals as goal
 

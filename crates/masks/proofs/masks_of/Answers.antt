@@ -1,5 +1,4 @@
 -- `masks::masks_of` meets its contract: one line for each arm. Assumes nothing.
-use borrow.Author.Rules.{rules}
 use native.Mathlib.Omega.{arith}
 use Rattle.masks.proofs.ByCode.{at-variable, at-unary, at-bind, at-where, at-emit, at-receive, at-gets, at-of-type, at_item, at-communicate, at-to, at-then, at-select, at-case, at-arm, at-for, at-binary, at-vector, at_other, bit-variable, bit-bind, bit-gets, bit-of-type, bit-item, bit-to}
 use Rattle.masks.proofs.masks_of.Goals as goal

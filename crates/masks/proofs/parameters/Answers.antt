@@ -1,11 +1,6 @@
 -- `masks::parameters` meets its contract: the mask of the variables passed, halved as often. Assumes nothing.
 use mathlib.Core.Path.{◌∙◌, ◌≡◌}
-use Prim.Native.Nat.{◌≤◌}
 use native.Mathlib.Omega.{arith}
-use lib.ListN.{length, drop}
-use borrow.Author.Rules.{rules}
-use Rattle.model.specs.Image.{tables_of}
-use Rattle.model.specs.Binding.{parameters_of}
 use Rattle.image.proofs.Laid.{variables-count}
 use Rattle.masks.proofs.ParameterMask.{from-none, double-fits, one-fits, one_on}
 use Rattle.masks.proofs.parameters.Goals as goal
@@ -32,7 +27,7 @@ pub loop-v-preserved : goal.loop-v-preserved
 loop-v-preserved c = (
   omega arith,
   one_on c.requires _ _ c.loop-v-test.true c.loop-v.invariant.0 c.loop-v.invariant.1 _ c.parameter.ensures,
- )
+)
 
 pub returns : goal.returns
 returns c = let e : c.loop-v.v ≡ 0 = omega arith in c.loop-v.invariant.1 ∙ rw e

@@ -1,13 +1,9 @@
 -- `masks::parameters` meets its contract: the mask of the variables passed, halved as often. Assumes nothing.
-use mathlib.Core.Path.{◌∙◌, ◌≡◌}
+use mathlib.Core.Path.{◌≡◌}
 use Prim.Native.Nat.{◌≤◌}
-use native.Mathlib.Omega.{arith}
 use lib.ListN.{length, drop}
-use borrow.Author.Rules.{rules}
 use Rattle.model.specs.Image.{tables_of}
 use Rattle.model.specs.Binding.{parameters_of}
-use Rattle.image.proofs.Laid.{variables-count}
-use Rattle.masks.proofs.ParameterMask.{from-none, double-fits, one-fits, one_on}
 use Rattle.masks.proofs.parameters.Given as goal
 
 abbrev pub invariant-loop-v : goal.invariant-loop-v

@@ -1,15 +1,11 @@
-
-use borrow.Author.Rules.{rules}
-use mathlib.Core.Path.{◌≡◌, refl, sym}
-use Prim.Native.Nat.{ℕ, ◌+◌, ◌-◌, ◌*◌, ◌<◌}
-use native.Mathlib.Omega.{arith}
+use mathlib.Core.Path.{◌≡◌}
+use Prim.Native.Nat.{◌+◌, ◌-◌, ◌*◌}
 use lib.ListN.{length, get_or, drop}
 use Rattle.model.specs.Image.{tables_of}
 use Rattle.text.specs.Emit.{page}
 use Rattle.notation.specs.Table.{notation}
 use Rattle.notation.specs.Texts.{line_from, filled, row_text}
-use Rattle.notation.proofs.Steps.{Left, left-all, stands-inside, filled-turn, filled-ends}
-use Rattle.notation.proofs.Rows.{row-spent, row-none, row-some}
+use Rattle.notation.proofs.Steps.{Left}
 use Rattle.notation.proofs.+put_filled_put_row.Given as goal
 
 abbrev pub decreases-put_row : goal.decreases-put_row

@@ -1,5 +1,3 @@
-
-use borrow.Author.Rules.{rules}
 use native.Mathlib.Omega.{arith}
 use Rattle.ntif.proofs.Checking.{accepted-trailer, accepted-rooted, accepted-fits, accepted-most, bytes-refused, bytes-accepted}
 use Rattle.ntif.proofs.check_bytes_on.Goals as goal

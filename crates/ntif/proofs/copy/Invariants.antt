@@ -1,10 +1,6 @@
-
-use borrow.Author.Rules.{rules}
-use mathlib.Core.{Path.◌≡◌, Path.refl, Path.◌∙◌, List.◌++◌}
+use mathlib.Core.{Path.◌≡◌, List.◌++◌}
 use Prim.Native.Nat.{◌≤◌, ◌-◌}
-use native.Mathlib.Omega.{arith}
-use lib.ListN.{length, take, drop, length-set}
-use Rattle.words.proofs.Copied.{copied-step}
+use lib.ListN.{length, take, drop}
 use Rattle.ntif.proofs.copy.Given as goal
 
 abbrev pub invariant-loop-i : goal.invariant-loop-i

@@ -1,5 +1,4 @@
 -- `ntif::ntif_start` meets its contract. Assumes nothing.
-use borrow.Author.Rules.{rules}
 use lib.Seq.{length-take-le}
 use mathlib.Core.Path.{sym, ◌∙◌}
 use native.Mathlib.Omega.{arith}

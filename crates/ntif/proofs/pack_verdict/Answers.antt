@@ -1,5 +1,4 @@
 -- `ntif::pack_verdict` meets its contract. Assumes nothing.
-use borrow.Author.Rules.{rules}
 use Rattle.ntif.proofs.Checking.{pack-refused}
 use Rattle.ntif.proofs.pack_verdict.Goals as goal
 

@@ -1,5 +1,4 @@
 -- `ntif::start_bytes_on` meets its contract. Assumes nothing.
-use borrow.Author.Rules.{rules}
 use Rattle.ntif.proofs.Starting.{read_of, start-bytes-refused, start-bytes-accepted}
 use mathlib.Core.Path.{refl}
 use native.Mathlib.Omega.{arith}

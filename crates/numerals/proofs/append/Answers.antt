@@ -1,7 +1,5 @@
 -- `numerals::append` meets its contract. Assumes nothing.
-use borrow.Author.Rules.{rules}
 use native.Mathlib.Omega.{arith}
-use mathlib.Core.Path.{◌≡◌, ◌∙◌, ap, sym}
 use Rattle.numerals.proofs.Reading.{digit_low, digit-high, far, near}
 use Rattle.numerals.proofs.append.Goals as goal
 

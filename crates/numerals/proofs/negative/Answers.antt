@@ -1,5 +1,4 @@
 -- `numerals::negative` meets its contract. Assumes nothing.
-use borrow.Author.Rules.{rules}
 use Rattle.numerals.proofs.Reading.{minus-none, minus-some}
 use Rattle.numerals.proofs.negative.Goals as goal
 

@@ -1,5 +1,4 @@
 -- `numerals::number` meets its contract. Assumes nothing.
-use borrow.Author.Rules.{rules}
 use Rattle.numerals.proofs.Reading.{fits-plus, fits-minus, over-plus, over-minus}
 use Rattle.numerals.proofs.number.Goals as goal
 

@@ -1,5 +1,4 @@
 -- `numerals::read` meets its contract. Assumes nothing.
-use borrow.Author.Rules.{rules}
 use mathlib.Core.{Path.ap, Path.◌∙◌, Bool.true, Bool.false}
 use Rattle.numerals.specs.Numerals.{fits}
 use Rattle.numerals.proofs.Reading.{word_none, word-plus, word-dash, word-dashes, word-minus, word-one}

@@ -1,5 +1,3 @@
-
-use borrow.Author.Rules.{rules}
 use Rattle.offers.proofs.Accepted.{emission, accepts-emission, receipt, accepts-receipt}
 use Rattle.offers.proofs.accept.Goals as goal
 

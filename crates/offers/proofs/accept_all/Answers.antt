@@ -1,11 +1,8 @@
-
-use borrow.Author.Rules.{rules}
-use mathlib.Core.Path.{◌≡◌, refl, ◌∙◌}
-use Prim.Native.Nat.{◌+◌, ◌%◌}
+use mathlib.Core.Path.{refl}
 use native.Mathlib.Omega.{arith}
 use Rattle.expressions.proofs.Ways.{row_from}
 use Rattle.actions.proofs.Listed.{here-row}
-use Rattle.offers.proofs.Offering.{Along, along-first, along-end, asks, along-less, count-in, along-refused, along-step}
+use Rattle.offers.proofs.Offering.{along-first, along-end, asks, along-less, count-in, along-refused, along-step}
 use Rattle.offers.proofs.accept_all.Goals as goal
 
 pub loop-r-init : goal.loop-r-init

@@ -1,5 +1,3 @@
-
-use borrow.Author.Rules.{rules}
 use Rattle.offers.proofs.Offering.{offers-ask, said-twice, said-first}
 use Rattle.offers.proofs.communicate.Goals as goal
 

@@ -1,5 +1,3 @@
-
-use borrow.Author.Rules.{rules}
 use Rattle.offers.proofs.Accepted.{emits-value, emits-unknown}
 use Rattle.offers.proofs.emit.Goals as goal
 

@@ -1,6 +1,5 @@
 -- `at_base`: by the row's code and its constant. Assumes nothing.
 use Rattle.patterns.proofs.Tried.{base-other, base_same, base-differs}
-use borrow.Author.Rules.{rules}
 use Rattle.patterns.proofs.at_base.Goals as goal
 
 pub returns-then-w-ne-CONSTANT : goal.returns-then-w-ne-CONSTANT

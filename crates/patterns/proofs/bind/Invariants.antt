@@ -1,9 +1,6 @@
 -- `bind`: the invariant is that the pattern here binds what the whole pattern binds. Assumes nothing.
-use mathlib.Core.Path.{◌≡◌, refl, ap}
-use lib.ListN.{length, length-set}
-use borrow.Author.Rules.{rules}
-use Rattle.expressions.proofs.Ways.{row_from}
-use Rattle.patterns.proofs.Walks.{Down, down-first, down-less, down_step, slot-in, bound-there, bound-none}
+use mathlib.Core.Path.{◌≡◌}
+use Rattle.patterns.proofs.Walks.{Down}
 use Rattle.patterns.proofs.bind.Given as goal
 
 abbrev pub invariant-loop-was : goal.invariant-loop-was

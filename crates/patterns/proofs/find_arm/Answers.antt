@@ -1,15 +1,12 @@
 -- `find_arm`: the invariant of the arms is that the search from here on finds what the whole search finds, on the store at entry; that of the
 -- conditions is `judge`'s. Assumes nothing.
 use lib.ListN.{length}
-use mathlib.Core.Path.{◌≡◌, refl, ap, ◌∙◌}
-use Prim.Native.Nat.{◌+◌, ◌%◌}
-use mir.{Syntax.w32, Val.to_z}
-use borrow.Author.Rules.{rules}
+use mathlib.Core.Path.{refl, ap, ◌∙◌}
 use Rattle.values.proofs.Held.{held-is}
 use Rattle.expressions.proofs.Ways.{row_from}
 use Rattle.patterns.proofs.Tried.{bound-still, bound-runs}
-use Rattle.patterns.proofs.Walks.{Along, along-first, along-less, along-condition, along-step, along-base}
-use Rattle.patterns.proofs.Arms.{none_found, arm-row, arm-tries, next-less, arm-found, arm-unsure, Seek, seek-first, seek-end, seek-next}
+use Rattle.patterns.proofs.Walks.{along-first, along-less, along-condition, along-step, along-base}
+use Rattle.patterns.proofs.Arms.{none_found, arm-row, arm-tries, next-less, arm-found, arm-unsure, seek-first, seek-end, seek-next}
 use Rattle.patterns.proofs.find_arm.Goals as goal
 
 pub arms-init : goal.arms-init

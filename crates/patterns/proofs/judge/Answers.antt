@@ -2,7 +2,7 @@
 use Rattle.values.proofs.Held.{held-is}
 use mathlib.Core.Path.{refl}
 use Rattle.expressions.proofs.Ways.{row_from}
-use Rattle.patterns.proofs.Walks.{Along, along-first, along-less, along-condition, along-step, along-base}
+use Rattle.patterns.proofs.Walks.{along-first, along-less, along-condition, along-step, along-base}
 use Rattle.patterns.proofs.judge.Goals as goal
 
 pub loop-kept-init : goal.loop-kept-init

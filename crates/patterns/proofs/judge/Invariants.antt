@@ -1,8 +1,5 @@
 -- `judge`: the invariant is that the pattern here, unless it holds, else the result kept, is what the whole pattern gives. Assumes nothing.
-use Rattle.values.proofs.Held.{held-is}
-use mathlib.Core.Path.{refl}
-use Rattle.expressions.proofs.Ways.{row_from}
-use Rattle.patterns.proofs.Walks.{Along, along-first, along-less, along-condition, along-step, along-base}
+use Rattle.patterns.proofs.Walks.{Along}
 use Rattle.patterns.proofs.judge.Given as goal
 
 abbrev pub invariant-loop-kept : goal.invariant-loop-kept

@@ -1,5 +1,4 @@
 -- `matches`: a match is its variable bound, and what the pattern gives then. Assumes nothing.
-use borrow.Author.Rules.{rules}
 use Rattle.values.proofs.Held.{held-is}
 use Rattle.patterns.proofs.Tried.{bound-runs, gives-matched, gives-failed, gives-unsure}
 use Rattle.patterns.proofs.matches.Goals as goal

@@ -1,7 +1,6 @@
 -- `restore`: the slot of the store holds what it held. Assumes nothing.
 use lib.ListN.{length}
 use Rattle.patterns.proofs.Tried.{was-in, was-back}
-use borrow.Author.Rules.{rules}
 use Rattle.patterns.proofs.restore.Goals as goal
 
 pub bounds-store-v : goal.bounds-store-v

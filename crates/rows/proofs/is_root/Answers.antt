@@ -1,5 +1,4 @@
 -- `rows::is_root` meets its contract. Assumes nothing.
-use borrow.Author.Rules.{rules}
 use Rattle.rows.proofs.Fields.{names-root}
 use Rattle.rows.proofs.is_root.Goals as goal
 

@@ -1,14 +1,9 @@
 -- `rows::not_rooted` meets its contract. Assumes nothing.
-use borrow.Author.Rules.{rules}
-use borrow.Author.Tests.{not-true, not-false}
 use mathlib.Core.Path.{refl, sym, ap, ◌∙◌}
-use Prim.Native.Nat.{◌-◌}
 use native.Mathlib.Omega.{arith}
-use Rattle.model.specs.Image.{tables_of}
 use Rattle.model.specs.Rows.{action, is_root}
-use Rattle.rows.specs.Judged.{rooted}
 use Rattle.rows.proofs.Fields.{state-in}
-use Rattle.rows.proofs.Lowest.{Passed, start, turn, found, over}
+use Rattle.rows.proofs.Lowest.{start, turn, found, over}
 use Rattle.rows.proofs.not_rooted.Goals as goal
 
 pub loop-q-init : goal.loop-q-init

@@ -1,5 +1,4 @@
 -- `rows::rows_verdict` meets its contract. Assumes nothing.
-use borrow.Author.Rules.{rules}
 use mathlib.Core.Path.{refl}
 use Rattle.model.specs.Lists.{table}
 use Rattle.model.specs.Rows.{codes, lookup, shape_of}

@@ -1,6 +1,4 @@
 -- `rows::verdict_by` meets its contract: each stage's answer, where the stages before it refuse nothing. Assumes nothing.
-use borrow.Author.Rules.{rules}
-use borrow.Author.Tests.{not-true, not-false}
 use mathlib.Core.Path.{◌≡◌, refl, sym, ◌∙◌}
 use Rattle.model.specs.Image.{Tables, tables_of}
 use Rattle.model.specs.Rows.{expression}

@@ -1,6 +1,5 @@
 -- `all` meets its contract. Assumes nothing.
 use native.Mathlib.Omega.{arith}
-use borrow.Author.Rules.{rules}
 use Rattle.model.specs.Masks.{full}
 use Rattle.sets.proofs.Forms.{shift-some, shift-full}
 use Rattle.sets.proofs.all.Goals as goal

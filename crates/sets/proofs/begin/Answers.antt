@@ -1,8 +1,7 @@
 -- `begin` meets its contract: the states passed have all variables. Assumes nothing.
-use mathlib.Core.Path.{◌≡◌, refl, ◌∙◌}
-use Prim.Native.Nat.{ℕ, ◌-◌, ◌≤◌, ◌<◌}
+use mathlib.Core.Path.{refl, ◌∙◌}
 use native.Mathlib.Omega.{arith}
-use lib.ListN.{length, get_or, length-set}
+use lib.ListN.{length-set}
 use Rattle.sets.proofs.Finding.{filled_on, begin-few, begin-some, begun-is}
 use Rattle.sets.proofs.begin.Goals as goal
 
@@ -26,7 +25,7 @@ loop-s-preserved c = (
   simp length-set (omega arith),
   simp length-set c.loop-s.invariant.1,
   filled_on c.loop-s.sets _ _ c.loop-s-test.true c.loop-s.invariant.2,
- )
+)
 
 pub parameters-requires : goal.parameters-requires
 parameters-requires c = c.requires.formed

@@ -1,9 +1,7 @@
 -- `begin` meets its contract: the states passed have all variables. Assumes nothing.
-use mathlib.Core.Path.{◌≡◌, refl, ◌∙◌}
+use mathlib.Core.Path.{◌≡◌}
 use Prim.Native.Nat.{ℕ, ◌-◌, ◌≤◌, ◌<◌}
-use native.Mathlib.Omega.{arith}
-use lib.ListN.{length, get_or, length-set}
-use Rattle.sets.proofs.Finding.{filled_on, begin-few, begin-some, begun-is}
+use lib.ListN.{length, get_or}
 use Rattle.sets.proofs.begin.Given as goal
 
 abbrev pub invariant-loop-s : goal.invariant-loop-s

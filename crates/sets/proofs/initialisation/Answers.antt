@@ -1,6 +1,5 @@
 -- `initialisation` meets its contract: what each call asks is what those before it leave. Assumes nothing.
 use native.Mathlib.Omega.{arith}
-use borrow.Author.Rules.{rules}
 use Rattle.model.specs.Image.{tables_of}
 use Rattle.image.proofs.Laid.{laid, variables-count}
 use Rattle.sets.proofs.Finding.{top-is, given-of, begun-staged, judged-none, judged-at}
@@ -21,7 +20,7 @@ pub settle-wrong-requires : goal.settle-wrong-requires
 settle-wrong-requires c = record {
   given = given-of c.requires _ _ c.variable_count.ensures c.all-top.ensures;
   stage = begun-staged c.requires c.begin.ensures;
- }
+}
 
 pub returns-then-wrong-eq0 : goal.returns-then-wrong-eq0
 returns-then-wrong-eq0 c = judged-none c.settle-wrong.ensures c.if-wrong-eq0.true

@@ -1,5 +1,4 @@
 -- `mark` meets its contract. Assumes nothing.
-use borrow.Author.Rules.{rules}
 use Rattle.sets.proofs.Turning.{marked-fine, marked-wrong}
 use Rattle.sets.proofs.mark.Goals as goal
 

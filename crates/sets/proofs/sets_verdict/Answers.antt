@@ -1,7 +1,6 @@
 -- `sets_verdict` meets its contract. Assumes nothing.
 use native.Mathlib.Omega.{arith}
 use lib.ListN.{length-take}
-use borrow.Author.Rules.{rules}
 use Rattle.sets.proofs.Finding.{found_of}
 use Rattle.sets.proofs.sets_verdict.Goals as goal
 
@@ -18,7 +17,7 @@ pub initialisation-requires : goal.initialisation-requires
 initialisation-requires c = record {
   lending = c.requires.lending;
   size = simp length-take (omega (arith, c.state_count-n.ensures, c.requires.room));
- }
+}
 
 pub returns : goal.returns
 returns c = found_of _ _ c.state_count-n.ensures c.initialisation.ensures

@@ -1,9 +1,7 @@
 -- `settle` meets its contract: a state at a time, until none is due. Assumes nothing.
 use mathlib.Core.Path.{sym, ◌∙◌}
 use native.Mathlib.Omega.{arith}
-use borrow.Author.Rules.{rules}
-use Rattle.model.specs.Image.{tables_of}
-use Rattle.sets.proofs.Visiting.{remaining, Visiting, visiting-first}
+use Rattle.sets.proofs.Visiting.{visiting-first}
 use Rattle.sets.proofs.Finding.{due-inside, due-located, due-lead, due-ready, walk-on, walk-less, settled-of}
 use Rattle.sets.proofs.settle.Goals as goal
 

@@ -1,5 +1,3 @@
-
-use borrow.Author.Rules.{rules}
 use mathlib.Core.Path.{refl}
 use Rattle.expressions.proofs.Ways.{row_from}
 use Rattle.simple.proofs.Acts.{worded-runs, is-communicate, choose-way, communicate-way}

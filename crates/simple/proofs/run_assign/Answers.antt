@@ -1,5 +1,3 @@
-
-use borrow.Author.Rules.{rules}
 use Rattle.simple.proofs.Acts.{items_at, assigned-ends, assigned-fails}
 use Rattle.simple.proofs.run_assign.Goals as goal
 

@@ -1,7 +1,6 @@
 -- `ends_right`: what the byte says. Assumes nothing.
 use Rattle.speech.specs.Verdict.{ends_right}
 use mathlib.Core.Path.{ap}
-use borrow.Author.Rules.{rules}
 use Rattle.speech.proofs.ends_right.Goals as goal
 
 pub returns : goal.returns

@@ -1,10 +1,6 @@
 -- `fill`: the invariant is that the rows below r are filled in. Assumes nothing.
-use native.Mathlib.Omega.{arith}
-use borrow.Author.Rules.{rules}
-use mathlib.Core.Path.{◌∙◌}
 use Prim.Native.Nat.{◌-◌}
-use Rattle.image.proofs.Laid.{rows-count}
-use Rattle.speech.proofs.Pass.{Passing, begun, ready, in-ways, in-u16, turned, ended}
+use Rattle.speech.proofs.Pass.{Passing}
 use Rattle.speech.proofs.fill.Given as goal
 
 abbrev pub invariant-loop-r : goal.invariant-loop-r

@@ -1,9 +1,7 @@
 -- `judged`: the invariant is that the states below s pass. Assumes nothing.
 use native.Mathlib.Omega.{arith}
-use borrow.Author.Tests.{not-true, not-false}
 use mathlib.Core.Path.{sym, ◌∙◌}
-use Prim.Native.Nat.{◌-◌}
-use Rattle.speech.proofs.States.{Looking, begun, state-of, in-u16, in-ways, speaks-well, passed, refused, accepted}
+use Rattle.speech.proofs.States.{begun, state-of, in-u16, in-ways, speaks-well, passed, refused, accepted}
 use Rattle.speech.proofs.judged.Goals as goal
 
 pub state_count-n-requires : goal.state_count-n-requires

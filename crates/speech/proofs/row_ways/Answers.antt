@@ -1,7 +1,6 @@
 -- `row_ways`: one law a code. Assumes nothing.
 use mathlib.Core.Path.{refl}
 use Rattle.speech.proofs.Row.{then-room, while-room, for-room, select-room, case-room, branch-room, arm-room, condition-of, case-of, do-null, do-assign, do-choose, do-reset, do-communicate, do-to, do-then, do-select, do-case, do-branch, do-arm, do-while, do-for, do-other}
-use borrow.Author.Rules.{rules}
 use Rattle.speech.proofs.row_ways.Goals as goal
 
 pub always-requires : goal.always-requires

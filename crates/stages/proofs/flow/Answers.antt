@@ -1,5 +1,3 @@
-
-use borrow.Author.Rules.{rules}
 use Rattle.stages.proofs.Stages.{flow-stays, flow-speech}
 use Rattle.stages.proofs.flow.Goals as goal
 

@@ -1,5 +1,3 @@
-
-use borrow.Author.Rules.{rules}
 use Rattle.stages.proofs.Stages.{found-short, found-sets, to-sets}
 use Rattle.stages.proofs.found.Goals as goal
 

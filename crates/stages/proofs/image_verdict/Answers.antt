@@ -1,5 +1,3 @@
-
-use borrow.Author.Rules.{rules}
 use Rattle.stages.proofs.Stages.{trailer-there, rooted-there, to-ruling, image-stays, image-rules}
 use Rattle.stages.proofs.image_verdict.Goals as goal
 

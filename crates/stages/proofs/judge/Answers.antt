@@ -1,5 +1,3 @@
-
-use borrow.Author.Rules.{rules}
 use Rattle.stages.proofs.Stages.{trailer-there, rooted-there, to-sized, judge-stays, judge-trees}
 use Rattle.stages.proofs.judge.Goals as goal
 

@@ -1,5 +1,3 @@
-
-use borrow.Author.Rules.{rules}
 use mathlib.Core.{Path.sym, Path.◌∙◌}
 use Rattle.stages.proofs.Stages.{rules-stays, rules-binding}
 use Rattle.stages.proofs.rules.Goals as goal

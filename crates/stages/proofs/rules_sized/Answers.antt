@@ -1,5 +1,4 @@
 -- `stages::rules_sized` meets its contract: by the number of rows. Assumes nothing.
-use borrow.Author.Rules.{rules}
 use native.Mathlib.Omega.{arith}
 use Rattle.image.proofs.Laid.{rows-count}
 use Rattle.stages.proofs.rules_sized.Goals as goal

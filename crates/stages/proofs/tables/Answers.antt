@@ -1,5 +1,3 @@
-
-use borrow.Author.Rules.{rules}
 use mathlib.Core.{Path.sym, Path.◌∙◌}
 use Rattle.stages.proofs.Stages.{trailer-inside, located-of, tables-stays, tables-rows}
 use Rattle.stages.proofs.tables.Goals as goal

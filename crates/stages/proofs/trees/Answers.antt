@@ -1,5 +1,3 @@
-
-use borrow.Author.Rules.{rules}
 use Rattle.stages.proofs.Stages.{trees-stays, trees-flow}
 use Rattle.stages.proofs.trees.Goals as goal
 

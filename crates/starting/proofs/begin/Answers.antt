@@ -1,5 +1,4 @@
 -- `starting::begin` meets its contract. Assumes nothing.
-use borrow.Author.Rules.{rules}
 use Rattle.starting.proofs.Judging.{begins-of}
 use Rattle.starting.proofs.Clearing.{variables-few}
 use lib.Seq.{length-take-le}

@@ -1,5 +1,4 @@
 -- `starting::begin_on` meets its contract. Assumes nothing.
-use borrow.Author.Rules.{rules}
 use Rattle.starting.proofs.Judging.{filled_of, begun-refused, begun-accepted}
 use Rattle.starting.proofs.begin_on.Goals as goal
 

@@ -1,5 +1,4 @@
 -- `starting::condition` meets its contract. Assumes nothing.
-use borrow.Author.Rules.{rules}
 use Rattle.starting.proofs.Judging.{runs, condition-told}
 use Rattle.model.specs.declared.Tested.TheVariants.{Holds, Fails, Unsure}
 use Rattle.starting.proofs.condition.Goals as goal

@@ -1,5 +1,4 @@
 -- `starting::count` meets its contract. Assumes nothing.
-use borrow.Author.Rules.{rules}
 use Rattle.starting.proofs.Judging.{to-begin, counted-store, counted-params, counted-begun}
 use Rattle.stages.proofs.Cleared.{located}
 use mathlib.Core.Path.{sym, ◌∙◌}

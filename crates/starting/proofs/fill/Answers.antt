@@ -1,14 +1,12 @@
 -- `starting::fill` meets its contract. Assumes nothing.
 use borrow.Author.Rules.{rules}
-use Prim.Native.Nat.{◌≤◌, ◌-◌}
 use native.Mathlib.Omega.{arith}
-use mathlib.Core.Path.{◌≡◌, refl}
-use lib.ListN.{length, length-set}
+use mathlib.Core.Path.{refl}
+use lib.ListN.{length-set}
 use Rattle.values.proofs.Held.{held-is}
-use Rattle.model.specs.Image.{tables_of}
 use Rattle.stages.proofs.Cleared.{located}
 use Rattle.starting.proofs.Clearing.{variable-of, parameter-small}
-use Rattle.starting.proofs.Filling.{FilledTo, filled_none, given-there, filled_next, filled-all, filled-started}
+use Rattle.starting.proofs.Filling.{filled_none, given-there, filled_next, filled-all, filled-started}
 use Rattle.starting.proofs.fill.Goals as goal
 
 pub variable_count-count-requires : goal.variable_count-count-requires

@@ -1,14 +1,9 @@
 -- `starting::fill` meets its contract. Assumes nothing.
-use borrow.Author.Rules.{rules}
 use Prim.Native.Nat.{◌≤◌, ◌-◌}
-use native.Mathlib.Omega.{arith}
-use mathlib.Core.Path.{◌≡◌, refl}
-use lib.ListN.{length, length-set}
-use Rattle.values.proofs.Held.{held-is}
+use mathlib.Core.Path.{◌≡◌}
+use lib.ListN.{length}
 use Rattle.model.specs.Image.{tables_of}
-use Rattle.stages.proofs.Cleared.{located}
-use Rattle.starting.proofs.Clearing.{variable-of, parameter-small}
-use Rattle.starting.proofs.Filling.{FilledTo, filled_none, given-there, filled_next, filled-all, filled-started}
+use Rattle.starting.proofs.Filling.{FilledTo}
 use Rattle.starting.proofs.fill.Given as goal
 
 abbrev pub invariant-loop-v : goal.invariant-loop-v

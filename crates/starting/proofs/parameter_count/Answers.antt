@@ -1,11 +1,9 @@
 -- `starting::parameter_count` meets its contract. Assumes nothing.
 use borrow.Author.Rules.{rules}
-use Prim.Native.Nat.{◌≤◌, ◌-◌}
 use native.Mathlib.Omega.{arith}
-use Rattle.model.specs.Image.{tables_of}
 use Rattle.stages.proofs.Cleared.{located}
 use Rattle.starting.proofs.Clearing.{variable-of, parameter-small}
-use Rattle.starting.proofs.Filling.{Counted, counted_none, counted_next, counted-all}
+use Rattle.starting.proofs.Filling.{counted_none, counted_next, counted-all}
 use Rattle.starting.proofs.parameter_count.Goals as goal
 
 pub variable_count-count-requires : goal.variable_count-count-requires

@@ -1,13 +1,7 @@
 -- `starting::parameter_verdict` meets its contract. Assumes nothing.
-use borrow.Author.Rules.{rules}
-use Prim.Native.Nat.{◌≤◌, ◌-◌}
 use native.Mathlib.Omega.{arith}
-use mathlib.Core.Path.{◌≡◌, sym, ◌∙◌}
-use borrow.Author.Tests.{not-true, not-false}
-use Rattle.model.specs.Answers.{lowest}
-use Rattle.model.specs.Image.{tables_of}
+use mathlib.Core.Path.{sym, ◌∙◌}
 use Rattle.model.proofs.Order.{lowest-full, lowest-pass}
-use Rattle.starting.specs.Starting.{right_at}
 use Rattle.stages.proofs.Cleared.{located}
 use Rattle.starting.proofs.Judging.{parameters-passed, parameters-refused}
 use Rattle.starting.proofs.parameter_verdict.Goals as goal

@@ -1,5 +1,4 @@
 -- `starting::right` meets its contract. Assumes nothing.
-use borrow.Author.Rules.{rules}
 use Rattle.starting.proofs.Judging.{right-plain, right-typed}
 use Rattle.starting.proofs.Clearing.{variable-of, type-of}
 use Rattle.image.proofs.Laid.{half_is}

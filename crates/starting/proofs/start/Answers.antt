@@ -1,5 +1,4 @@
 -- `starting::start` meets its contract. Assumes nothing.
-use borrow.Author.Rules.{rules}
 use Rattle.stages.proofs.Cleared.{cleared-long, to-cleared}
 use Rattle.starting.proofs.Judging.{start-refused, start-counted}
 use native.Mathlib.Omega.{arith}

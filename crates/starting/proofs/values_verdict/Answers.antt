@@ -1,5 +1,4 @@
 -- `starting::values_verdict` meets its contract. Assumes nothing.
-use borrow.Author.Rules.{rules}
 use Rattle.starting.proofs.Judging.{typed-of, values-stays, values-condition}
 use Rattle.starting.proofs.values_verdict.Goals as goal
 

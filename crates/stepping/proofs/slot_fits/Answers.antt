@@ -1,5 +1,3 @@
-
-use borrow.Author.Rules.{rules}
 use mathlib.Core.Path.{refl}
 use Rattle.stepping.proofs.Slots.{variable-there, type-there, slot-undefined, slot-judged}
 use Rattle.stepping.proofs.slot_fits.Goals as goal

@@ -1,5 +1,3 @@
-
-use borrow.Author.Rules.{rules}
 use native.Mathlib.Omega.{arith}
 use Rattle.told.proofs.Kept.{slots_length}
 use Rattle.stepping.proofs.Trying.{state-there, runs-there, tried}

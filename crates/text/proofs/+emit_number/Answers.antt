@@ -1,7 +1,5 @@
-
 use borrow.Author.Rules.{rules}
 use Rattle.text.proofs.Pages.{emit-digit, emit-tenth}
-use Prim.Native.Nat.{ℕ, ◌<◌}
 use Rattle.text.proofs.+emit_number.Goals as goal
 
 pub returns-then-n-lt10 : goal.returns-then-n-lt10

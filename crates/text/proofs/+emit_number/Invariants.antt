@@ -1,7 +1,3 @@
-
-use borrow.Author.Rules.{rules}
-use Rattle.text.proofs.Pages.{emit-digit, emit-tenth}
-use Prim.Native.Nat.{ℕ, ◌<◌}
 use Rattle.text.proofs.+emit_number.Given as goal
 
 abbrev pub decreases-emit_number : goal.decreases-emit_number

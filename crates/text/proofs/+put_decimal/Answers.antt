@@ -1,9 +1,7 @@
-
 use borrow.Author.Rules.{rules}
 use native.Mathlib.Omega.{arith}
 use Rattle.text.proofs.Decimal.{tenth-most}
 use Rattle.text.proofs.Put.{put-digit, put-tenth}
-use Prim.Native.Nat.{ℕ, ◌<◌}
 use Rattle.text.proofs.+put_decimal.Goals as goal
 
 pub returns-then-n-lt10 : goal.returns-then-n-lt10

@@ -1,10 +1,8 @@
-
 use borrow.Author.Rules.{rules}
 use mathlib.Core.Path.{◌≡◌, refl}
-use Prim.Native.Nat.{◌≤◌, ◌-◌}
 use native.Mathlib.Omega.{arith}
 use Rattle.model.specs.Exports.{count}
-use Rattle.text.proofs.Halving.{Halved, halved_none, halved-next, count_next}
+use Rattle.text.proofs.Halving.{halved_none, halved-next, count_next}
 use Rattle.text.proofs.count.Goals as goal
 
 pub loop-v-init : goal.loop-v-init

@@ -1,10 +1,7 @@
-
-use borrow.Author.Rules.{rules}
-use mathlib.Core.Path.{◌≡◌, refl}
+use mathlib.Core.Path.{◌≡◌}
 use Prim.Native.Nat.{◌≤◌, ◌-◌}
-use native.Mathlib.Omega.{arith}
 use Rattle.model.specs.Exports.{count}
-use Rattle.text.proofs.Halving.{Halved, halved_none, halved-next, count_next}
+use Rattle.text.proofs.Halving.{Halved}
 use Rattle.text.proofs.count.Given as goal
 
 abbrev pub invariant-loop-v : goal.invariant-loop-v

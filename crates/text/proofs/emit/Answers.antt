@@ -1,10 +1,7 @@
-
 use borrow.Author.Rules.{rules}
 use mathlib.Core.Path.{◌≡◌, refl}
-use Prim.Native.Nat.{◌-◌, ◌≤◌}
 use native.Mathlib.Omega.{arith}
-use lib.{ListN.length, ListN.take, Seq.take-length}
-use Rattle.text.specs.Emit.{page, Emitted}
+use lib.{ListN.length, Seq.take-length}
 use Rattle.text.proofs.Pages.{emit-none, emit-next}
 use Rattle.text.proofs.emit.Goals as goal
 

@@ -1,11 +1,7 @@
-
-use borrow.Author.Rules.{rules}
-use mathlib.Core.Path.{◌≡◌, refl}
+use mathlib.Core.Path.{◌≡◌}
 use Prim.Native.Nat.{◌-◌, ◌≤◌}
-use native.Mathlib.Omega.{arith}
-use lib.{ListN.length, ListN.take, Seq.take-length}
+use lib.{ListN.length, ListN.take}
 use Rattle.text.specs.Emit.{page, Emitted}
-use Rattle.text.proofs.Pages.{emit-none, emit-next}
 use Rattle.text.proofs.emit.Given as goal
 
 abbrev pub invariant-loop-j : goal.invariant-loop-j

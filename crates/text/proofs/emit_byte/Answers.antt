@@ -1,4 +1,3 @@
-
 use borrow.Author.Rules.{rules}
 use Rattle.text.proofs.Pages.{emit-room, emit-full}
 use Rattle.text.proofs.emit_byte.Goals as goal

@@ -1,4 +1,3 @@
-
 use borrow.Author.Rules.{rules}
 use Rattle.text.proofs.Pages.{emit-small, emit-minus}
 use Rattle.text.proofs.emit_literal.Goals as goal

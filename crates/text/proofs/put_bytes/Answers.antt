@@ -1,9 +1,8 @@
 -- at the loop's head the slice has its length
 use borrow.Author.Rules.{rules}
 use mathlib.Core.{Path.◌≡◌, Path.ap, Path.◌∙◌}
-use Prim.Native.Nat.{◌≤◌, ◌-◌}
 use native.Mathlib.{Omega.arith, Numerals.add-one}
-use lib.{ListN.length, Seq.paste, Seq.paste-zero, Seq.paste-suc, Seq.length-paste, Seq.take-length}
+use lib.{ListN.length, Seq.paste-zero, Seq.paste-suc, Seq.length-paste, Seq.take-length}
 use Rattle.text.proofs.put_bytes.Goals as goal
 
 pub loop-j-init : goal.loop-j-init

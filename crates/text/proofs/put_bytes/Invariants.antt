@@ -1,9 +1,7 @@
 -- at the loop's head the slice has its length
-use borrow.Author.Rules.{rules}
-use mathlib.Core.{Path.◌≡◌, Path.ap, Path.◌∙◌}
+use mathlib.Core.{Path.◌≡◌}
 use Prim.Native.Nat.{◌≤◌, ◌-◌}
-use native.Mathlib.{Omega.arith, Numerals.add-one}
-use lib.{ListN.length, Seq.paste, Seq.paste-zero, Seq.paste-suc, Seq.length-paste, Seq.take-length}
+use lib.{ListN.length, Seq.paste}
 use Rattle.text.proofs.put_bytes.Given as goal
 
 abbrev pub invariant-loop-j : goal.invariant-loop-j

@@ -1,5 +1,3 @@
-
-use borrow.Author.Rules.{rules}
 use native.Mathlib.Omega.{arith}
 use Rattle.text.proofs.Decimal.{decimal-most}
 use Rattle.text.proofs.Put.{put-after}

@@ -1,5 +1,3 @@
-
-use borrow.Author.Rules.{rules}
 use Rattle.told.proofs.Coded.{ends_at, jumps_at, stops_at}
 use Rattle.told.proofs.outcome.Goals as goal
 

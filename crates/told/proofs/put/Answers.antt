@@ -1,4 +1,3 @@
-
 use borrow.Author.Rules.{rules}
 use mathlib.Core.Path.{refl}
 use Rattle.told.proofs.Kept.{set_all}

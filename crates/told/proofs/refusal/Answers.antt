@@ -1,4 +1,3 @@
-
 use Rattle.told.proofs.Coded.{as-21, as-22, as-23, as-24, as-25, as-26, as-27}
 use Rattle.told.proofs.refusal.Goals as goal
 

@@ -1,4 +1,3 @@
-
 use borrow.Author.Rules.{rules}
 use native.Mathlib.Omega.{arith}
 use Rattle.told.proofs.Coded.{number-most, tells-stop}

@@ -1,4 +1,3 @@
-
 use borrow.Author.Rules.{rules}
 use Rattle.told.proofs.Coded.{tells_as, tells-ends, tells-jump}
 use mathlib.Core.Path.{sym}

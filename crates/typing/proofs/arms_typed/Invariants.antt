@@ -1,9 +1,7 @@
 -- `typing::arms_typed` meets its contract: the rest of the list decides. The measure is the row, none counting 0.
 -- Assumes nothing.
-use mathlib.Core.Path.{refl}
 use Prim.Native.Nat.{◌+◌, ◌%◌}
-use Rattle.typing.proofs.Rows.{Here, known-row}
-use Rattle.typing.proofs.Lists.{AlongArms, begin, row-there, arms-over, arm-pattern, arms_less, arms-fails, arms_goes}
+use Rattle.typing.proofs.Lists.{AlongArms}
 use Rattle.typing.proofs.arms_typed.Given as goal
 
 abbrev pub invariant-loop-at : goal.invariant-loop-at

@@ -1,9 +1,8 @@
 -- `typing::gets_typed` meets its contract: the rest of the list decides. The measure is the row, none counting 0.
 -- Assumes nothing.
 use mathlib.Core.Path.{refl}
-use Prim.Native.Nat.{◌+◌, ◌%◌}
 use Rattle.typing.proofs.Rows.{Here, known-row}
-use Rattle.typing.proofs.Lists.{AlongGets, begin, row-there, gets-over, gets-variable, gets-expression, gets-less, gets-fails, gets-goes}
+use Rattle.typing.proofs.Lists.{begin, row-there, gets-over, gets-variable, gets-expression, gets-less, gets-fails, gets-goes}
 use Rattle.typing.proofs.gets_typed.Goals as goal
 
 pub loop-at-init : goal.loop-at-init

@@ -1,9 +1,8 @@
 -- `typing::of_types_typed` meets its contract: the rest of the list decides. The measure is the row, none counting 0.
 -- Assumes nothing.
 use mathlib.Core.Path.{refl}
-use Prim.Native.Nat.{◌+◌, ◌%◌}
 use Rattle.typing.proofs.Rows.{Here, known-row}
-use Rattle.typing.proofs.Lists.{AlongOfTypes, begin, row-there, of_types-over, of_type-variable, of_types-less, of_types-fails, of_types-goes}
+use Rattle.typing.proofs.Lists.{begin, row-there, of_types-over, of_type-variable, of_types-less, of_types-fails, of_types-goes}
 use Rattle.typing.proofs.of_types_typed.Goals as goal
 
 pub loop-at-init : goal.loop-at-init

@@ -2,7 +2,6 @@
 -- Assumes nothing.
 use mathlib.Core.{Path.refl, List.List, List.[], List.◌∷◌}
 use Prim.Native.Nat.{ℕ}
-use borrow.Author.Rules.{rules}
 use Rattle.model.specs.Image.{bool, int}
 use Rattle.model.specs.Rows.{codes, lookup, shape_of}
 use Rattle.typing.specs.Rules.{result_of}

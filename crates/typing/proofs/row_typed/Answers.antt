@@ -1,6 +1,5 @@
 -- `typing::row_typed` meets its contract, code by code. Assumes nothing.
 use native.Mathlib.Omega.{arith}
-use borrow.Author.Rules.{rules}
 use Rattle.typing.specs.Rules.{Operator}
 use Rattle.typing.proofs.Codes.{unary-operator}
 use Rattle.typing.proofs.Rows.{Here}

@@ -1,5 +1,4 @@
 -- `typing::takes` meets its contract, test by test. Assumes nothing.
-use borrow.Author.Rules.{rules}
 use Rattle.typing.proofs.Types.{of-one-type, second-decides, first-decides}
 use Rattle.typing.proofs.takes.Goals as goal
 

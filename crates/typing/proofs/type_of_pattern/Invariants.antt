@@ -1,11 +1,9 @@
 -- `typing::type_of_pattern` meets its contract: the pattern that the loop has come to is of the type asked for. The measure is
 -- its row. Assumes nothing.
-use mathlib.Core.Path.{◌≡◌, refl, ◌∙◌}
+use mathlib.Core.Path.{◌≡◌}
 use Rattle.model.specs.Image.{tables_of}
 use Rattle.model.specs.Rows.{pattern}
 use Rattle.typing.specs.Rules.{pattern_type, OfKind}
-use Rattle.typing.proofs.Rows.{Here, known-row, child}
-use Rattle.typing.proofs.Types.{bind-asks, bind-type, where-named, where-type, plain_type}
 use Rattle.typing.proofs.type_of_pattern.Given as goal
 
 abbrev pub invariant-loop-at : goal.invariant-loop-at

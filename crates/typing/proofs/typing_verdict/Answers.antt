@@ -1,11 +1,9 @@
 -- `typing::typing_verdict` meets its contract: the rows before r pass. The measure is the number of rows left.
 -- Assumes nothing.
 use mathlib.Core.Path.{sym, ◌∙◌}
-use Prim.Native.Nat.{◌-◌}
 use native.Mathlib.Omega.{arith}
-use borrow.Author.Tests.{not-true, not-false}
 use Rattle.image.proofs.Laid.{rows-count}
-use Rattle.typing.proofs.Verdict.{Passing, none_yet, one_more, refused-at, accepted}
+use Rattle.typing.proofs.Verdict.{none_yet, one_more, refused-at, accepted}
 use Rattle.typing.proofs.typing_verdict.Goals as goal
 
 pub row_count-n-requires : goal.row_count-n-requires

@@ -1,5 +1,4 @@
 -- `values::minus` meets its contract. Assumes nothing.
-use borrow.Author.Rules.{rules}
 use lib.IntN.{◌-ℤ◌}
 use Rattle.model.specs.Values.{minus}
 use Rattle.values.proofs.Held.{difference-in, result_fits, wrapped}

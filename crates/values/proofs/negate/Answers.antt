@@ -1,7 +1,6 @@
 -- `values::negate` meets its contract. Assumes nothing.
 -- 0 - a, of one operand
 use mathlib.Core.Path.{ap, ◌∙◌}
-use borrow.Author.Rules.{rules}
 use lib.IntN.{ℤ, pos, neg_ℤ, ◌-ℤ◌, +ℤ_idl}
 use Rattle.model.specs.Values.{negate, wrap}
 use Rattle.values.proofs.Held.{once, negative-in, result_fits, wrapped}

@@ -2,7 +2,6 @@
 -- the size that was found
 use mathlib.Core.Path.{◌≡◌, sym, ◌∙◌}
 use mathlib.Core.Bool.{true, false}
-use borrow.Author.Rules.{rules}
 use lib.Signed.{mag, non_neg}
 use Rattle.model.proofs.Values.{of_size-int}
 use Rattle.values.proofs.Sizes.{le-sign}

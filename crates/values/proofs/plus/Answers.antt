@@ -1,5 +1,4 @@
 -- `values::plus` meets its contract. Assumes nothing.
-use borrow.Author.Rules.{rules}
 use lib.IntN.{◌+ℤ◌}
 use Rattle.model.specs.Values.{plus}
 use Rattle.values.proofs.Held.{sum-in, result_fits, wrapped}

@@ -1,5 +1,4 @@
 -- `values::quotient` meets its contract. Assumes nothing.
-use borrow.Author.Rules.{rules}
 use native.Mathlib.Omega.{arith}
 use lib.Signed.{quot_z}
 use Rattle.model.specs.Values.{quotient}

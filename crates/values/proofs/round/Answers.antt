@@ -1,6 +1,5 @@
 -- `values::round` meets its contract. Assumes nothing.
 use mathlib.Core.Path.{◌∙◌}
-use borrow.Author.Rules.{rules}
 use Rattle.values.proofs.Held.{held-is}
 use Rattle.values.proofs.Computed.{round-low, round-high}
 use Rattle.values.proofs.round.Goals as goal

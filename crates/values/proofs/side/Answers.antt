@@ -1,6 +1,5 @@
 -- `values::side` meets its contract. Assumes nothing.
 use mathlib.Core.Path.{◌∙◌}
-use borrow.Author.Rules.{rules}
 use mir.{Syntax.w32, ValLaws.to_z_pos}
 use Rattle.values.proofs.Held.{flip-fits, flip-held}
 use Rattle.values.proofs.side.Goals as goal

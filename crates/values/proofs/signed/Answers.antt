@@ -1,5 +1,4 @@
 -- `values::signed` meets its contract. Assumes nothing.
-use borrow.Author.Rules.{rules}
 use native.Mathlib.Omega.{arith}
 use Rattle.values.proofs.Wrapping.{signed-wraps}
 use Rattle.values.proofs.signed.Goals as goal

@@ -1,5 +1,4 @@
 -- `values::times` meets its contract. Assumes nothing.
-use borrow.Author.Rules.{rules}
 use lib.IntN.{◌*ℤ◌}
 use Rattle.model.specs.Values.{times}
 use Rattle.values.proofs.Held.{product-in, result_fits, wrapped}

@@ -1,5 +1,4 @@
 -- `values::wrap` meets its contract. Assumes nothing.
-use borrow.Author.Rules.{rules}
 use Rattle.values.proofs.Wrapping.{twice-fits, some-n, quotient_fits, higher-fits, highest-fits, last-quotient-fits, ends-fits, wraps}
 use Rattle.values.proofs.wrap.Goals as goal
 

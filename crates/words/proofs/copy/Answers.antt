@@ -1,9 +1,8 @@
 -- `words::copy` meets its contract. Assumes nothing.
 use borrow.Author.Rules.{rules}
-use mathlib.Core.{Path.◌≡◌, Path.refl, Path.◌∙◌, List.◌++◌}
-use Prim.Native.Nat.{◌≤◌, ◌-◌}
+use mathlib.Core.{Path.refl, Path.◌∙◌}
 use native.Mathlib.Omega.{arith}
-use lib.ListN.{length, take, drop, length-set}
+use lib.ListN.{length-set}
 use Rattle.words.proofs.Copied.{copied-held, copied_all}
 use Rattle.words.proofs.copy.Goals as goal
 

@@ -1,10 +1,7 @@
 -- `words::copy` meets its contract. Assumes nothing.
-use borrow.Author.Rules.{rules}
-use mathlib.Core.{Path.◌≡◌, Path.refl, Path.◌∙◌, List.◌++◌}
+use mathlib.Core.{Path.◌≡◌, List.◌++◌}
 use Prim.Native.Nat.{◌≤◌, ◌-◌}
-use native.Mathlib.Omega.{arith}
-use lib.ListN.{length, take, drop, length-set}
-use Rattle.words.proofs.Copied.{copied-held, copied_all}
+use lib.ListN.{length, take, drop}
 use Rattle.words.proofs.copy.Given as goal
 
 abbrev pub invariant-loop-i : goal.invariant-loop-i

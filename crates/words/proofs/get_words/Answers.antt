@@ -1,10 +1,8 @@
 -- `words::get_words` meets its contract. Assumes nothing.
 use borrow.Author.Rules.{rules}
-use mathlib.Core.{Path.◌≡◌, Path.refl, List.◌++◌}
-use Prim.Native.Nat.{◌≤◌, ◌-◌}
+use mathlib.Core.{Path.◌≡◌, Path.refl}
 use native.Mathlib.Omega.{arith}
-use lib.ListN.{length, take, drop, length-set}
-use Rattle.model.specs.Bytes.{signed_words}
+use lib.ListN.{length-set}
 use Rattle.values.proofs.Held.{held-is}
 use Rattle.words.proofs.Words.{read_step}
 use Rattle.words.proofs.get_words.Goals as goal

@@ -1,12 +1,8 @@
 -- `words::get_words` meets its contract. Assumes nothing.
-use borrow.Author.Rules.{rules}
-use mathlib.Core.{Path.◌≡◌, Path.refl, List.◌++◌}
+use mathlib.Core.{Path.◌≡◌, List.◌++◌}
 use Prim.Native.Nat.{◌≤◌, ◌-◌}
-use native.Mathlib.Omega.{arith}
-use lib.ListN.{length, take, drop, length-set}
+use lib.ListN.{length, take, drop}
 use Rattle.model.specs.Bytes.{signed_words}
-use Rattle.values.proofs.Held.{held-is}
-use Rattle.words.proofs.Words.{read_step}
 use Rattle.words.proofs.get_words.Given as goal
 
 abbrev pub invariant-loop-i : goal.invariant-loop-i

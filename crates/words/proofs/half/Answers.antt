@@ -1,5 +1,4 @@
 -- `words::half` meets its contract. Assumes nothing.
-use borrow.Author.Rules.{rules}
 use native.Mathlib.Omega.{arith}
 use Rattle.model.proofs.Bytes.{half_at-bytes}
 use Rattle.words.proofs.half.Goals as goal

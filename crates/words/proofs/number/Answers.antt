@@ -1,5 +1,4 @@
 -- `words::number` meets its contract. Assumes nothing.
-use borrow.Author.Rules.{rules}
 use Rattle.words.proofs.Words.{number_at-halves}
 use Rattle.words.proofs.number.Goals as goal
 

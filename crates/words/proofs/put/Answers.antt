@@ -2,9 +2,8 @@
 -- at the loop's head the slice has its length
 use borrow.Author.Rules.{rules}
 use mathlib.Core.{Path.◌≡◌, Path.ap, Path.◌∙◌}
-use Prim.Native.Nat.{◌≤◌, ◌-◌}
 use native.Mathlib.{Nat.le_refl, Omega.arith}
-use lib.{ListN.length, ListN.drop, Seq.paste, Seq.paste-zero, Seq.length-paste, Seq.take_all}
+use lib.{ListN.length, Seq.paste-zero, Seq.length-paste, Seq.take_all}
 use Rattle.model.specs.Bytes.{bytes_of}
 use Rattle.model.proofs.Bytes.{length-bytes_of}
 use Rattle.words.proofs.Written.{first_byte, byte_step}

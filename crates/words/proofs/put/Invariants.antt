@@ -1,13 +1,9 @@
 -- `words::put` meets its contract. Assumes nothing.
 -- at the loop's head the slice has its length
-use borrow.Author.Rules.{rules}
-use mathlib.Core.{Path.◌≡◌, Path.ap, Path.◌∙◌}
+use mathlib.Core.{Path.◌≡◌}
 use Prim.Native.Nat.{◌≤◌, ◌-◌}
-use native.Mathlib.{Nat.le_refl, Omega.arith}
-use lib.{ListN.length, ListN.drop, Seq.paste, Seq.paste-zero, Seq.length-paste, Seq.take_all}
+use lib.{ListN.drop, Seq.paste}
 use Rattle.model.specs.Bytes.{bytes_of}
-use Rattle.model.proofs.Bytes.{length-bytes_of}
-use Rattle.words.proofs.Written.{first_byte, byte_step}
 use Rattle.words.proofs.put.Given as goal
 
 abbrev pub invariant-loop-j : goal.invariant-loop-j

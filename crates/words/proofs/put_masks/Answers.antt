@@ -1,10 +1,7 @@
 -- `words::put_masks` meets its contract. Assumes nothing.
 use borrow.Author.Rules.{rules}
 use mathlib.Core.{Path.◌≡◌, Path.refl, Path.◌∙◌}
-use Prim.Native.Nat.{◌≤◌, ◌-◌}
 use native.Mathlib.Omega.{arith}
-use lib.ListN.{length, take}
-use Rattle.model.specs.Bytes.{written}
 use Rattle.words.proofs.Written.{written_none, written_step}
 use Rattle.words.proofs.put_masks.Goals as goal
 

@@ -1,10 +1,9 @@
 -- `words::put_words` meets its contract. Assumes nothing.
 use borrow.Author.Rules.{rules}
-use mathlib.Core.{Path.◌≡◌, Path.refl, Path.◌∙◌, List.map}
-use Prim.Native.Nat.{◌≤◌, ◌-◌, ◌^◌}
+use mathlib.Core.{Path.◌≡◌, Path.refl, Path.◌∙◌}
+use Prim.Native.Nat.{◌^◌}
 use native.Mathlib.Omega.{arith}
-use lib.{IntN.pos, ListN.length, ListN.get_or, ListN.take}
-use Rattle.model.specs.Bytes.{unsigned, written}
+use lib.{IntN.pos, ListN.get_or}
 use Rattle.values.proofs.Held.{held-is}
 use Rattle.words.proofs.Written.{written_none}
 use Rattle.words.proofs.Words.{words_step}

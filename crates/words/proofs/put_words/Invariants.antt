@@ -1,13 +1,8 @@
 -- `words::put_words` meets its contract. Assumes nothing.
-use borrow.Author.Rules.{rules}
-use mathlib.Core.{Path.◌≡◌, Path.refl, Path.◌∙◌, List.map}
+use mathlib.Core.{Path.◌≡◌, List.map}
 use Prim.Native.Nat.{◌≤◌, ◌-◌, ◌^◌}
-use native.Mathlib.Omega.{arith}
-use lib.{IntN.pos, ListN.length, ListN.get_or, ListN.take}
+use lib.{ListN.length, ListN.take}
 use Rattle.model.specs.Bytes.{unsigned, written}
-use Rattle.values.proofs.Held.{held-is}
-use Rattle.words.proofs.Written.{written_none}
-use Rattle.words.proofs.Words.{words_step}
 use Rattle.words.proofs.put_words.Given as goal
 
 abbrev pub invariant-loop-i : goal.invariant-loop-i

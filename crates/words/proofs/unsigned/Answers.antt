@@ -1,6 +1,5 @@
 -- `words::unsigned` meets its contract. Assumes nothing.
 -- the size that was found
-use borrow.Author.Rules.{rules}
 use mathlib.Core.Path.{◌≡◌}
 use Prim.Native.Nat.{◌^◌}
 use lib.Signed.{mag}

@@ -1,8 +1,5 @@
-
-use borrow.Author.Rules.{rules}
-use mathlib.Core.Path.{◌∙◌}
 use borrow.Author.Tests.{ne_eqb}
-use Rattle.notation.specs.Texts.{deeper, aim_of, aim_by}
+use Rattle.notation.specs.Texts.{aim_of, aim_by}
 use Rattle.notation.proofs.marks.aim.Goals as goal
 
 pub returns-in-65 : goal.returns-in-65

@@ -1,4 +1,3 @@
-
 use mathlib.Core.{Path.sym, Path.ap, Bool.Bool, Bool.true, Bool.false}
 use Prim.Native.Nat.{ℕ}
 use borrow.Author.Tests.{ne_eqb}

@@ -1,4 +1,3 @@
-
 use borrow.Author.Tests.{ne_eqb}
 use Rattle.notation.specs.Texts.{gate_line}
 use Rattle.notation.proofs.marks.gate_line.Goals as goal

@@ -1,4 +1,3 @@
-
 use borrow.Author.Tests.{ne_eqb}
 use Rattle.notation.specs.Texts.{ends_by}
 use Rattle.notation.proofs.marks.is_end.Goals as goal

@@ -1,11 +1,8 @@
-
 use borrow.Author.Rules.{rules}
 use mathlib.Core.Path.{◌≡◌, refl, ◌∙◌}
-use Prim.Native.Nat.{◌+◌, ◌-◌, ◌≤◌}
 use native.Mathlib.Omega.{arith}
-use lib.ListN.{length, get_or, drop}
 use Rattle.notation.specs.Table.{notation}
-use Rattle.notation.specs.Texts.{line_from, ends_by}
+use Rattle.notation.specs.Texts.{line_from}
 use Rattle.notation.proofs.Steps.{line-next, ends-most, line-nearer}
 use Rattle.notation.proofs.marks.line.Goals as goal
 

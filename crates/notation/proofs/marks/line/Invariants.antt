@@ -1,12 +1,8 @@
-
-use borrow.Author.Rules.{rules}
-use mathlib.Core.Path.{◌≡◌, refl, ◌∙◌}
+use mathlib.Core.Path.{◌≡◌}
 use Prim.Native.Nat.{◌+◌, ◌-◌, ◌≤◌}
-use native.Mathlib.Omega.{arith}
-use lib.ListN.{length, get_or, drop}
+use lib.ListN.{length, drop}
 use Rattle.notation.specs.Table.{notation}
-use Rattle.notation.specs.Texts.{line_from, ends_by}
-use Rattle.notation.proofs.Steps.{line-next, ends-most, line-nearer}
+use Rattle.notation.specs.Texts.{line_from}
 use Rattle.notation.proofs.marks.line.Given as goal
 
 abbrev pub invariant-loop-left : goal.invariant-loop-left

@@ -1,4 +1,3 @@
-
 use borrow.Author.Rules.{rules}
 use Rattle.notation.specs.Table.{notation}
 use lib.ListN.{get_or-eq_default}

@@ -1,11 +1,7 @@
-
 use borrow.Author.Rules.{rules}
-use mathlib.Core.{Path.◌≡◌, Path.refl, List.List, List.[], List.◌∷◌}
-use Prim.Native.Nat.{ℕ, ◌-◌, ◌≤◌}
+use mathlib.Core.{Path.◌≡◌, Path.refl, List.[], List.◌∷◌}
 use native.Mathlib.Omega.{arith}
-use lib.ListN.{length}
-use Rattle.text.specs.Emit.{page, Emitted}
-use Rattle.notation.specs.Texts.{each, blanks}
+use Rattle.notation.specs.Texts.{blanks}
 use Rattle.notation.proofs.Steps.{each_next, each_none}
 use Rattle.notation.proofs.marks.put_blanks.Goals as goal
 

@@ -1,12 +1,8 @@
-
-use borrow.Author.Rules.{rules}
-use mathlib.Core.{Path.◌≡◌, Path.refl, List.List, List.[], List.◌∷◌}
-use Prim.Native.Nat.{ℕ, ◌-◌, ◌≤◌}
-use native.Mathlib.Omega.{arith}
+use mathlib.Core.{Path.◌≡◌, List.[], List.◌∷◌}
+use Prim.Native.Nat.{◌-◌, ◌≤◌}
 use lib.ListN.{length}
 use Rattle.text.specs.Emit.{page, Emitted}
-use Rattle.notation.specs.Texts.{each, blanks}
-use Rattle.notation.proofs.Steps.{each_next, each_none}
+use Rattle.notation.specs.Texts.{each}
 use Rattle.notation.proofs.marks.put_blanks.Given as goal
 
 abbrev pub invariant-loop-k : goal.invariant-loop-k

@@ -1,5 +1,3 @@
-
-use borrow.Author.Rules.{rules}
 use Rattle.notation.specs.Texts.{line_end}
 use Rattle.notation.proofs.marks.put_end.Goals as goal
 

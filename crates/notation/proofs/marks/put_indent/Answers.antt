@@ -1,5 +1,3 @@
-
-use borrow.Author.Rules.{rules}
 use Rattle.text.proofs.Pages.{emit-then}
 use Rattle.notation.proofs.marks.put_indent.Goals as goal
 

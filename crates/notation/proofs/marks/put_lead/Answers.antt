@@ -1,5 +1,3 @@
-
-use borrow.Author.Rules.{rules}
 use borrow.Author.Tests.{ne_eqb}
 use Rattle.notation.specs.Texts.{lead_text}
 use Rattle.text.proofs.Pages.{emit-none}

@@ -1,8 +1,5 @@
-
-use borrow.Author.Rules.{rules}
 use borrow.Author.Tests.{ne_eqb, eq-eqb}
 use Rattle.notation.specs.Texts.{margin}
-use Rattle.text.proofs.Pages.{emit-none}
 use Rattle.notation.proofs.marks.put_margin.Goals as goal
 
 pub returns-then-row-place : goal.returns-then-row-place

@@ -1,5 +1,3 @@
-
-use borrow.Author.Rules.{rules}
 use borrow.Author.Tests.{ne_eqb}
 use Rattle.text.proofs.Pages.{emit-none}
 use Rattle.notation.specs.Texts.{plain_text, text_by}

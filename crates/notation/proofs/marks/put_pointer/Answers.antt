@@ -1,5 +1,3 @@
-
-use borrow.Author.Rules.{rules}
 use borrow.Author.Tests.{ne_eqb, eq-eqb}
 use Rattle.notation.specs.Texts.{pointer}
 use Rattle.text.proofs.Pages.{emit-none}

@@ -1,5 +1,3 @@
-
-use borrow.Author.Rules.{rules}
 use Rattle.text.proofs.Pages.{emit-then}
 use Rattle.notation.specs.Texts.{line_start}
 use Rattle.notation.proofs.marks.put_start.Goals as goal

@@ -1,5 +1,3 @@
-
-use borrow.Author.Rules.{rules}
 use borrow.Author.Tests.{ne_eqb}
 use Rattle.notation.specs.Texts.{type_name}
 use Rattle.text.proofs.Pages.{emit-then}

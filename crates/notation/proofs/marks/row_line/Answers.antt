@@ -1,5 +1,3 @@
-
-use borrow.Author.Rules.{rules}
 use borrow.Author.Tests.{ne_eqb}
 use Rattle.notation.specs.Texts.{row_line}
 use Rattle.notation.proofs.marks.row_line.Goals as goal

@@ -1,4 +1,3 @@
-
 use native.Mathlib.Omega.{arith}
 use borrow.Author.Tests.{ne_eqb}
 use Rattle.image.proofs.Laid.{laid}

@@ -1,4 +1,3 @@
-
 use borrow.Author.Tests.{ne_eqb}
 use Rattle.notation.specs.Whole.{filling_of, count_of}
 use Rattle.notation.proofs.tables.filling_of.Goals as goal

@@ -1,5 +1,3 @@
-
-use borrow.Author.Rules.{rules}
 use Rattle.notation.specs.Whole.{entry_text}
 use Rattle.notation.proofs.tables.put_entry.Goals as goal
 

@@ -1,5 +1,3 @@
-
-use borrow.Author.Rules.{rules}
 use Rattle.notation.specs.Texts.{line_text}
 use Rattle.notation.proofs.tables.put_line.Goals as goal
 

@@ -1,12 +1,7 @@
-
 use borrow.Author.Rules.{rules}
 use mathlib.Core.Path.{◌≡◌, refl}
-use Prim.Native.Nat.{◌-◌, ◌≤◌}
 use native.Mathlib.Omega.{arith}
-use lib.ListN.{length}
 use Rattle.model.specs.Image.{tables_of}
-use Rattle.text.specs.Emit.{page, Emitted}
-use Rattle.notation.specs.Texts.{each}
 use Rattle.notation.specs.Whole.{entry_text, table_text, count_of}
 use Rattle.notation.proofs.Steps.{each_next, each_none}
 use Rattle.notation.proofs.tables.put_table.Goals as goal

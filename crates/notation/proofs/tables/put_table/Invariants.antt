@@ -1,14 +1,10 @@
-
-use borrow.Author.Rules.{rules}
-use mathlib.Core.Path.{◌≡◌, refl}
+use mathlib.Core.Path.{◌≡◌}
 use Prim.Native.Nat.{◌-◌, ◌≤◌}
-use native.Mathlib.Omega.{arith}
 use lib.ListN.{length}
 use Rattle.model.specs.Image.{tables_of}
 use Rattle.text.specs.Emit.{page, Emitted}
 use Rattle.notation.specs.Texts.{each}
-use Rattle.notation.specs.Whole.{entry_text, table_text, count_of}
-use Rattle.notation.proofs.Steps.{each_next, each_none}
+use Rattle.notation.specs.Whole.{entry_text}
 use Rattle.notation.proofs.tables.put_table.Given as goal
 
 abbrev pub invariant-loop-q : goal.invariant-loop-q

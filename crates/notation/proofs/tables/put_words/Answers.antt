@@ -1,5 +1,3 @@
-
-use borrow.Author.Rules.{rules}
 use native.Mathlib.Omega.{arith}
 use Rattle.notation.specs.Texts.{row_text}
 use Rattle.notation.specs.Whole.{words_text}

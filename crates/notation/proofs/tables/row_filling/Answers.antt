@@ -1,5 +1,3 @@
-
-use borrow.Author.Rules.{rules}
 use Rattle.notation.specs.Whole.{row_filling}
 use Rattle.notation.proofs.tables.row_filling.Goals as goal
 

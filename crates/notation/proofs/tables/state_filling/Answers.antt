@@ -1,5 +1,3 @@
-
-use borrow.Author.Rules.{rules}
 use Rattle.notation.specs.Whole.{state_filling}
 use Rattle.notation.proofs.tables.state_filling.Goals as goal
 

@@ -1,5 +1,3 @@
-
-use borrow.Author.Rules.{rules}
 use Rattle.notation.specs.Whole.{type_filling}
 use Rattle.notation.proofs.tables.type_filling.Goals as goal
 

@@ -1,4 +1,3 @@
-
 use borrow.Author.Tests.{ne_eqb}
 use Rattle.notation.specs.Whole.{type_line}
 use Rattle.notation.proofs.tables.type_line.Goals as goal

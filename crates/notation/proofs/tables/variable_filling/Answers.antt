@@ -1,5 +1,3 @@
-
-use borrow.Author.Rules.{rules}
 use Rattle.notation.specs.Whole.{variable_filling}
 use Rattle.notation.proofs.tables.variable_filling.Goals as goal
 

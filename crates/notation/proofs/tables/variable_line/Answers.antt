@@ -1,4 +1,3 @@
-
 use borrow.Author.Tests.{ne_eqb}
 use Rattle.notation.specs.Whole.{variable_line}
 use Rattle.notation.proofs.tables.variable_line.Goals as goal

@@ -1,5 +1,3 @@
-
-use borrow.Author.Rules.{rules}
 use Rattle.notation.specs.Whole.{pointing}
 use Rattle.notation.proofs.whole.pointing.Goals as goal
 

@@ -1,5 +1,3 @@
-
-use borrow.Author.Rules.{rules}
 use Rattle.text.proofs.Pages.{emit-then}
 use Rattle.notation.specs.Whole.{listing_text}
 use Rattle.notation.proofs.whole.put_listing.Goals as goal

@@ -1,5 +1,3 @@
-
-use borrow.Author.Rules.{rules}
 use Rattle.text.proofs.Pages.{emit-then, emit-none}
 use Rattle.notation.specs.Whole.{member_text}
 use Rattle.notation.proofs.whole.put_member.Goals as goal

@@ -1,11 +1,6 @@
-
 use borrow.Author.Rules.{rules}
 use mathlib.Core.Path.{◌≡◌, refl}
-use Prim.Native.Nat.{◌-◌, ◌≤◌}
 use native.Mathlib.Omega.{arith}
-use lib.ListN.{length}
-use Rattle.text.specs.Emit.{page, Emitted}
-use Rattle.notation.specs.Texts.{each}
 use Rattle.notation.specs.Whole.{member_text}
 use Rattle.notation.proofs.Steps.{each_next, each_none}
 use Rattle.notation.proofs.whole.put_members.Goals as goal

@@ -1,13 +1,9 @@
-
-use borrow.Author.Rules.{rules}
-use mathlib.Core.Path.{◌≡◌, refl}
+use mathlib.Core.Path.{◌≡◌}
 use Prim.Native.Nat.{◌-◌, ◌≤◌}
-use native.Mathlib.Omega.{arith}
 use lib.ListN.{length}
 use Rattle.text.specs.Emit.{page, Emitted}
 use Rattle.notation.specs.Texts.{each}
 use Rattle.notation.specs.Whole.{member_text}
-use Rattle.notation.proofs.Steps.{each_next, each_none}
 use Rattle.notation.proofs.whole.put_members.Given as goal
 
 abbrev pub invariant-loop-v : goal.invariant-loop-v

@@ -1,5 +1,3 @@
-
-use borrow.Author.Rules.{rules}
 use Rattle.notation.specs.Whole.{refusal_text}
 use Rattle.notation.proofs.whole.put_refusal.Goals as goal
 

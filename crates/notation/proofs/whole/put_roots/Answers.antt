@@ -1,5 +1,3 @@
-
-use borrow.Author.Rules.{rules}
 use native.Mathlib.Omega.{arith}
 use Rattle.image.proofs.Laid.{laid}
 use Rattle.text.proofs.Pages.{emit-then}

@@ -1,13 +1,9 @@
-
-use borrow.Author.Rules.{rules}
-use mathlib.Core.Path.{◌≡◌, refl}
+use mathlib.Core.Path.{◌≡◌}
 use Prim.Native.Nat.{◌-◌, ◌≤◌}
-use native.Mathlib.Omega.{arith}
 use lib.ListN.{length}
 use Rattle.text.specs.Emit.{page, Emitted}
 use Rattle.notation.specs.Texts.{each}
 use Rattle.notation.specs.Whole.{set_text}
-use Rattle.notation.proofs.Steps.{each_next, each_none}
 use Rattle.notation.proofs.whole.put_sets.Given as goal
 
 abbrev pub invariant-loop-q : goal.invariant-loop-q

@@ -1,6 +1,4 @@
-
 use borrow.Author.Rules.{rules}
-use native.Mathlib.Omega.{arith}
 use borrow.Author.Tests.{lt-ltb, le-ltb}
 use Rattle.notation.specs.Whole.{shown_text}
 use Rattle.notation.proofs.whole.put_shown.Goals as goal

@@ -1,4 +1,3 @@
-
 use borrow.Author.Rules.{rules}
 use borrow.Author.Tests.{ne_eqb, lt-ltb, le-ltb}
 use Rattle.notation.specs.Whole.{row_place}

@@ -1,5 +1,4 @@
 -- `rows::fits::formed` meets its contract: the fields by the form of the row's line. Assumes nothing.
-use borrow.Author.Rules.{rules}
 use native.Mathlib.Omega.{arith}
 use Rattle.rows.specs.Judged.{Lined}
 use Rattle.rows.proofs.Fields.{row_in, lined-at, formed-unknown, formed-known}

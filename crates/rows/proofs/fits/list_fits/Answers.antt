@@ -1,8 +1,5 @@
 -- `rows::fits::list_fits` meets its contract. Assumes nothing.
-use borrow.Author.Rules.{rules}
-use mathlib.Core.Path.{◌≡◌, refl, ◌∙◌}
-use Rattle.model.specs.Image.{tables_of}
-use Rattle.model.specs.Rows.{list_fits}
+use mathlib.Core.Path.{refl, ◌∙◌}
 use Rattle.rows.proofs.Fields.{list_over, list-long, list_on}
 use Rattle.rows.proofs.fits.list_fits.Goals as goal
 

@@ -1,9 +1,7 @@
 -- `rows::fits::list_fits` meets its contract. Assumes nothing.
-use borrow.Author.Rules.{rules}
-use mathlib.Core.Path.{◌≡◌, refl, ◌∙◌}
+use mathlib.Core.Path.{◌≡◌}
 use Rattle.model.specs.Image.{tables_of}
 use Rattle.model.specs.Rows.{list_fits}
-use Rattle.rows.proofs.Fields.{list_over, list-long, list_on}
 use Rattle.rows.proofs.fits.list_fits.Given as goal
 
 abbrev pub invariant-loop-at : goal.invariant-loop-at

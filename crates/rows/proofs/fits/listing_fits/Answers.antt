@@ -1,5 +1,4 @@
 -- `rows::fits::listing_fits` meets its contract. Assumes nothing.
-use borrow.Author.Rules.{rules}
 use native.Mathlib.Omega.{arith}
 use mathlib.Core.Path.{refl, sym}
 use Rattle.model.specs.Rows.{field_fits}

@@ -1,12 +1,7 @@
 -- `rows::fits::malformed` meets its contract. Assumes nothing.
-use borrow.Author.Rules.{rules}
-use borrow.Author.Tests.{not-true, not-false}
 use mathlib.Core.Path.{sym, ◌∙◌}
-use Prim.Native.Nat.{◌-◌}
 use native.Mathlib.Omega.{arith}
-use Rattle.model.specs.Image.{tables_of}
-use Rattle.model.specs.Rows.{formed}
-use Rattle.rows.proofs.Lowest.{Passed, start, turn, found, over}
+use Rattle.rows.proofs.Lowest.{start, turn, found, over}
 use Rattle.rows.proofs.fits.malformed.Goals as goal
 
 pub loop-r-init : goal.loop-r-init

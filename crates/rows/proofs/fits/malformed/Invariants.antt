@@ -1,12 +1,8 @@
 -- `rows::fits::malformed` meets its contract. Assumes nothing.
-use borrow.Author.Rules.{rules}
-use borrow.Author.Tests.{not-true, not-false}
-use mathlib.Core.Path.{sym, ◌∙◌}
 use Prim.Native.Nat.{◌-◌}
-use native.Mathlib.Omega.{arith}
 use Rattle.model.specs.Image.{tables_of}
 use Rattle.model.specs.Rows.{formed}
-use Rattle.rows.proofs.Lowest.{Passed, start, turn, found, over}
+use Rattle.rows.proofs.Lowest.{Passed}
 use Rattle.rows.proofs.fits.malformed.Given as goal
 
 abbrev pub invariant-loop-r : goal.invariant-loop-r

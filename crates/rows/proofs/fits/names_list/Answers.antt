@@ -1,5 +1,4 @@
 -- `rows::fits::names_list` meets its contract. Assumes nothing.
-use borrow.Author.Rules.{rules}
 use Rattle.rows.proofs.fits.names_list.Goals as goal
 
 pub returns : goal.returns

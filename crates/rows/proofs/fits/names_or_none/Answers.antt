@@ -1,5 +1,4 @@
 -- `rows::fits::names_or_none` meets its contract. Assumes nothing.
-use borrow.Author.Rules.{rules}
 use Rattle.rows.proofs.Fields.{or-none}
 use Rattle.rows.proofs.fits.names_or_none.Goals as goal
 

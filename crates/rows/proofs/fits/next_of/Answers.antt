@@ -1,5 +1,4 @@
 -- `rows::fits::next_of` meets its contract. Assumes nothing.
-use borrow.Author.Rules.{rules}
 use native.Mathlib.Omega.{arith}
 use Rattle.rows.proofs.Fields.{row_in, next_past, next-b, next-c, next-none}
 use Rattle.rows.proofs.fits.next_of.Goals as goal

@@ -1,5 +1,4 @@
 -- `rows::fits::value_fits` meets its contract. Assumes nothing.
-use borrow.Author.Rules.{rules}
 use native.Mathlib.Omega.{arith}
 use Rattle.model.specs.Image.{tables_of}
 use Rattle.rows.proofs.Fields.{type-in, value-int, value-size, value-past}

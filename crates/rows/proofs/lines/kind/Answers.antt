@@ -1,5 +1,4 @@
 -- `rows::lines::kind` meets its contract. Assumes nothing.
-use borrow.Author.Rules.{rules}
 use mathlib.Core.Path.{◌∙◌, ap}
 use Prim.Native.Nat.{ℕ}
 use Rattle.model.specs.Rows.{kind_of, shape_of, number_of_kind}

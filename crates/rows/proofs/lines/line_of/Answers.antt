@@ -1,5 +1,4 @@
 -- `rows::lines::line_of` meets its contract. Assumes nothing.
-use borrow.Author.Rules.{rules}
 use Rattle.rows.proofs.Codes.{line-past}
 use Rattle.rows.proofs.lines.line_of.Goals as goal
 

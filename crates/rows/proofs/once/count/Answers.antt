@@ -1,5 +1,4 @@
 -- `rows::once::count` meets its contract. Assumes nothing.
-use borrow.Author.Rules.{rules}
 use Rattle.rows.proofs.Counting.{counted-in, counted-out}
 use Rattle.rows.proofs.once.count.Goals as goal
 

@@ -1,5 +1,4 @@
 -- `rows::once::count_field` meets its contract. Assumes nothing.
-use borrow.Author.Rules.{rules}
 use mathlib.Core.Path.{sym, ◌∙◌}
 use Rattle.rows.proofs.Counting.{counted-field, counted-plain}
 use Rattle.rows.proofs.once.count_field.Goals as goal

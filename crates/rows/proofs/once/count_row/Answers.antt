@@ -1,5 +1,4 @@
 -- `rows::once::count_row` meets its contract. Assumes nothing.
-use borrow.Author.Rules.{rules}
 use Rattle.rows.proofs.Counting.{counted-row}
 use Rattle.rows.proofs.once.count_row.Goals as goal
 

@@ -1,11 +1,6 @@
 -- `rows::once::count_rows` meets its contract. Assumes nothing.
-use borrow.Author.Rules.{rules}
-use Prim.Native.Nat.{◌-◌}
 use native.Mathlib.Omega.{arith}
-use lib.ListN.{take}
 use Rattle.model.specs.Image.{tables_of}
-use Rattle.model.specs.Rows.{named_by_rows}
-use Rattle.rows.specs.Counts.{Counted}
 use Rattle.rows.proofs.Fields.{row_in}
 use Rattle.rows.proofs.Counting.{rows_start, rows-turn, rows_end}
 use Rattle.rows.proofs.once.count_rows.Goals as goal

@@ -1,12 +1,8 @@
 -- `rows::once::count_states` meets its contract. Assumes nothing.
-use borrow.Author.Rules.{rules}
 use Prim.Native.Nat.{◌-◌}
-use native.Mathlib.Omega.{arith}
 use lib.ListN.{take}
 use Rattle.model.specs.Image.{tables_of}
 use Rattle.rows.specs.Counts.{Counted}
-use Rattle.rows.proofs.Fields.{state-in}
-use Rattle.rows.proofs.Counting.{counted_none, states-turn, states-end}
 use Rattle.rows.proofs.once.count_states.Given as goal
 
 abbrev pub invariant-loop-q : goal.invariant-loop-q

@@ -1,5 +1,4 @@
 -- `rows::once::not_once` meets its contract. Assumes nothing.
-use borrow.Author.Rules.{rules}
 use mathlib.Core.Path.{sym}
 use Rattle.rows.proofs.Fields.{rows-most}
 use Rattle.rows.proofs.Counting.{scratch}

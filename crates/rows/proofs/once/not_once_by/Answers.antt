@@ -1,5 +1,4 @@
 -- `rows::once::not_once_by` meets its contract. Assumes nothing.
-use borrow.Author.Rules.{rules}
 use Rattle.model.specs.Image.{tables_of}
 use Rattle.image.proofs.Laid.{condition-is}
 use Rattle.rows.proofs.Counting.{lowest-named}

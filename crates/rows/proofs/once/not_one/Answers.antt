@@ -1,9 +1,6 @@
 -- `rows::once::not_one` meets its contract. Assumes nothing.
-use borrow.Author.Rules.{rules}
 use borrow.Author.Tests.{eq-eqb, ne_eqb}
-use Prim.Native.Nat.{◌-◌}
-use Rattle.rows.specs.Counts.{once_in}
-use Rattle.rows.proofs.Lowest.{Passed, start, turn, found, over}
+use Rattle.rows.proofs.Lowest.{start, turn, found, over}
 use Rattle.rows.proofs.once.not_one.Goals as goal
 
 pub loop-r-init : goal.loop-r-init

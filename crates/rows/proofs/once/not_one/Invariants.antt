@@ -1,9 +1,7 @@
 -- `rows::once::not_one` meets its contract. Assumes nothing.
-use borrow.Author.Rules.{rules}
-use borrow.Author.Tests.{eq-eqb, ne_eqb}
 use Prim.Native.Nat.{◌-◌}
 use Rattle.rows.specs.Counts.{once_in}
-use Rattle.rows.proofs.Lowest.{Passed, start, turn, found, over}
+use Rattle.rows.proofs.Lowest.{Passed}
 use Rattle.rows.proofs.once.not_one.Given as goal
 
 abbrev pub invariant-loop-r : goal.invariant-loop-r

@@ -1,14 +1,11 @@
 -- The walk's functions meet their contracts: each way of the code is a law of Steps or Listing. A row's number falls with every call;
 -- a list counts as its first row and one more, none as nothing. Assumes nothing.
-use mathlib.Core.Logic.{⊎_elim}
 use mathlib.Core.Path.{sym, ◌∙◌}
-use Prim.Native.Nat.{ℕ, ◌+◌, ◌*◌, ◌%◌, ◌<◌}
 use native.Mathlib.Omega.{arith}
-use borrow.Author.Rules.{rules}
 use Rattle.model.specs.Rows.{action, branch, arm}
 use Rattle.sets.proofs.Rows.{row-of-kind}
-use Rattle.sets.proofs.Steps.{do-plain, do-fine, Walking, walking-all, first-ready, first-low, second-low, walking_on, walking-last, loop-masks, body-ready, body-low, do-loop, as-jump, as-loop, as_plain, branches-ready, branches-low, do-select, arms-ready, arms-low, case-masks, do-case}
-use Rattle.sets.proofs.Listing.{Listing, branching, here-kind, branches-all, branch-ready, branch-low, branch_less, branches-on, branches-last, arming, arms-all, arm-masks, arm-ready, arm_low, arm-less, arms-on, arms_last}
+use Rattle.sets.proofs.Steps.{do-plain, do-fine, walking-all, first-ready, first-low, second-low, walking_on, walking-last, loop-masks, body-ready, body-low, do-loop, as-jump, as-loop, as_plain, branches-ready, branches-low, do-select, arms-ready, arms-low, case-masks, do-case}
+use Rattle.sets.proofs.Listing.{here-kind, branches-all, branch-ready, branch-low, branch_less, branches-on, branches-last, arms-all, arm-masks, arm-ready, arm_low, arm-less, arms-on, arms_last}
 use Rattle.sets.proofs.flow.+walk_walk_arms_walk_branches_walk_first_walk_loop_walk_single.Goals as goal
 use Rattle.sets.proofs.flow.+walk_walk_arms_walk_branches_walk_first_walk_loop_walk_single.Goals.{walk_single-in_default-via-then-c-lt59, walk_single-in_default-via-else-c-lt59+else-c-lt61}
 
@@ -130,7 +127,7 @@ pub walk_single-walk_branches-requires : goal.walk_single-walk_branches-requires
 walk_single-walk_branches-requires t c = (
   omega (arith, c.decreases, branches-low c.requires c.fields-w.ensures c.in-55.is),
   branches-ready c.requires c.fields-w.ensures c.in-55.is,
- )
+)
 
 pub walk_single-mask_at-requires : goal.walk_single-mask_at-requires
 walk_single-mask_at-requires t c = (case-masks c.requires c.fields-w.ensures c.in-56.is).0
@@ -142,7 +139,7 @@ pub walk_single-walk_arms-requires : goal.walk_single-walk_arms-requires
 walk_single-walk_arms-requires t c = (
   omega (arith, c.decreases, arms-low c.requires c.fields-w.ensures c.in-56.is),
   arms-ready c.requires c.fields-w.ensures c.in-56.is,
- )
+)
 
 pub walk_single-walk_loop-requires : goal.walk_single-walk_loop-requires
 walk_single-walk_loop-requires t c = (omega (arith, c.decreases), as-loop c.requires c.fields-w.ensures (c.in-59.if-c-lt59-own.false, omega (arith, c.in-59.if-c-lt61-own.true)))

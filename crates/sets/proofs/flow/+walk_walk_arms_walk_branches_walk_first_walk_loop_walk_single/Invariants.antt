@@ -1,14 +1,9 @@
 -- The walk's functions meet their contracts: each way of the code is a law of Steps or Listing. A row's number falls with every call;
 -- a list counts as its first row and one more, none as nothing. Assumes nothing.
-use mathlib.Core.Logic.{⊎_elim}
-use mathlib.Core.Path.{sym, ◌∙◌}
-use Prim.Native.Nat.{ℕ, ◌+◌, ◌*◌, ◌%◌, ◌<◌}
-use native.Mathlib.Omega.{arith}
-use borrow.Author.Rules.{rules}
-use Rattle.model.specs.Rows.{action, branch, arm}
-use Rattle.sets.proofs.Rows.{row-of-kind}
-use Rattle.sets.proofs.Steps.{do-plain, do-fine, Walking, walking-all, first-ready, first-low, second-low, walking_on, walking-last, loop-masks, body-ready, body-low, do-loop, as-jump, as-loop, as_plain, branches-ready, branches-low, do-select, arms-ready, arms-low, case-masks, do-case}
-use Rattle.sets.proofs.Listing.{Listing, branching, here-kind, branches-all, branch-ready, branch-low, branch_less, branches-on, branches-last, arming, arms-all, arm-masks, arm-ready, arm_low, arm-less, arms-on, arms_last}
+use Prim.Native.Nat.{◌+◌, ◌*◌, ◌%◌}
+use Rattle.model.specs.Rows.{branch, arm}
+use Rattle.sets.proofs.Steps.{Walking}
+use Rattle.sets.proofs.Listing.{Listing, branching, arming}
 use Rattle.sets.proofs.flow.+walk_walk_arms_walk_branches_walk_first_walk_loop_walk_single.Given as goal
 
 abbrev pub decreases-walk_single : goal.decreases-walk_single

@@ -1,7 +1,6 @@
 -- `flow::jump` meets its contract. Assumes nothing.
 use mathlib.Core.Path.{refl}
 use native.Mathlib.Omega.{arith}
-use borrow.Author.Rules.{rules}
 use Rattle.model.specs.Masks.{meet}
 use Rattle.model.specs.Rows.{action}
 use Rattle.sets.proofs.Rows.{row-of-kind}

@@ -1,7 +1,6 @@
 -- `flow::mask_at` meets its contract. Assumes nothing.
 use mathlib.Core.Path.{sym}
 use mathlib.Core.Logic.{⊎_elim}
-use borrow.Author.Rules.{rules}
 use Rattle.sets.proofs.Forms.{mask-none, mask-some}
 use Rattle.sets.proofs.flow.mask_at.Goals as goal
 

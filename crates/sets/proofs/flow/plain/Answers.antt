@@ -1,6 +1,5 @@
 -- `flow::plain` meets its contract: a law of Plainly for each code. Assumes nothing.
 use native.Mathlib.Omega.{arith}
-use borrow.Author.Rules.{rules}
 use Rattle.model.specs.Rows.{action}
 use Rattle.sets.proofs.Rows.{base-of, row-of-kind}
 use Rattle.sets.proofs.Plainly.{assign-in, choose-in, reset-in, communicate-in, do-assign, do-choose, do-reset, do-communicate, do-null}

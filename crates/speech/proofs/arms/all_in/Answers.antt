@@ -1,6 +1,5 @@
 -- `all_in`: over 64 values, or by the mask. Assumes nothing.
 use Rattle.speech.proofs.Sixty.{all-in-not, all-in-is}
-use borrow.Author.Rules.{rules}
 use Rattle.speech.proofs.arms.all_in.Goals as goal
 
 pub returns-then-n-gt64 : goal.returns-then-n-gt64

@@ -1,7 +1,6 @@
 -- `arms_catch`: the invariant is what the arms from this row on add; the row falls, none counting as 0. Assumes nothing.
-use Prim.Native.Nat.{◌+◌, ◌%◌}
 use mathlib.Core.Path.{refl}
-use Rattle.speech.proofs.Catching.{arm_is, Going, arm-here, begun, turned, ended}
+use Rattle.speech.proofs.Catching.{arm_is, arm-here, begun, turned, ended}
 use Rattle.speech.proofs.Places.{kind_row}
 use Rattle.speech.proofs.arms.arms_catch.Goals as goal
 

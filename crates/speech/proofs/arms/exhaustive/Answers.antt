@@ -1,6 +1,5 @@
 -- `exhaustive`: some arm catches all; or int; or value by value. Assumes nothing.
 use Rattle.speech.proofs.Exhausted.{exhausted-all, exhausted-int, exhausted-each}
-use borrow.Author.Rules.{rules}
 use Rattle.speech.proofs.arms.exhaustive.Goals as goal
 
 pub returns-then-c : goal.returns-then-c

@@ -1,7 +1,6 @@
 -- `full_mask`: all 64 bits, or 2^n - 1. Assumes nothing.
 use native.Mathlib.Omega.{arith}
 use Rattle.speech.proofs.Sixty.{full-some, full-below, full-all}
-use borrow.Author.Rules.{rules}
 use Rattle.speech.proofs.arms.full_mask.Goals as goal
 
 pub overflow_sub-result : goal.overflow_sub-result

@@ -2,7 +2,6 @@
 use mathlib.Core.Path.{refl}
 use Rattle.speech.proofs.Catching.{pattern-is}
 use Rattle.speech.proofs.Places.{kind_row}
-use borrow.Author.Rules.{rules}
 use Rattle.speech.proofs.arms.pattern_catches.Goals as goal
 
 pub fields-w-requires : goal.fields-w-requires

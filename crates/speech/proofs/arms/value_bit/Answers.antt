@@ -1,6 +1,5 @@
 -- `value_bit`: a constant below 64, another constant, another pattern. Assumes nothing.
 use Rattle.speech.proofs.Sixty.{value_in, value_out, no_value}
-use borrow.Author.Rules.{rules}
 use Rattle.speech.proofs.arms.value_bit.Goals as goal
 
 pub returns-then-value-lt64 : goal.returns-then-value-lt64

@@ -1,6 +1,5 @@
 -- `Modes::either`: mode by mode. Assumes nothing.
 use Rattle.speech.proofs.Bits.{pair}
-use borrow.Author.Rules.{rules}
 use Rattle.speech.proofs.ways.Modes.either.Goals as goal
 
 pub returns : goal.returns

@@ -1,6 +1,5 @@
 -- `Modes::first`: by whether there is a row. Assumes nothing.
 use borrow.Author.Tests.{eq-eqb, ne_eqb}
-use borrow.Author.Rules.{rules}
 use Rattle.speech.proofs.ways.Modes.first.Goals as goal
 
 pub at-requires : goal.at-requires

@@ -1,6 +1,5 @@
 -- `Modes::for_loop`: mode by mode. Assumes nothing.
 use Rattle.speech.proofs.Bits.{pair}
-use borrow.Author.Rules.{rules}
 use Rattle.speech.proofs.ways.Modes.for_loop.Goals as goal
 
 pub returns : goal.returns

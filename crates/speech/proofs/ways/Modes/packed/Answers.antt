@@ -1,6 +1,5 @@
 -- `Modes::packed`: the spoken mode above the quiet one. Assumes nothing.
 use Rattle.speech.proofs.Bits.{packed-both}
-use borrow.Author.Rules.{rules}
 use Rattle.speech.proofs.ways.Modes.packed.Goals as goal
 
 pub returns : goal.returns

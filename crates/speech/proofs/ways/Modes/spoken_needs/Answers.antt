@@ -1,7 +1,6 @@
 -- `Modes::spoken_needs`: entered quiet nothing is asked. Assumes nothing.
 use mathlib.Core.Path.{refl}
 use Rattle.speech.proofs.Bits.{pair}
-use borrow.Author.Rules.{rules}
 use Rattle.speech.proofs.ways.Modes.spoken_needs.Goals as goal
 
 pub returns : goal.returns

@@ -1,7 +1,6 @@
 -- `Modes::unpacked`: mode by mode. Assumes nothing.
 use Rattle.speech.specs.Both.{unpacked}
 use Rattle.speech.proofs.Bits.{pair}
-use borrow.Author.Rules.{rules}
 use Rattle.speech.proofs.ways.Modes.unpacked.Goals as goal
 
 pub returns : goal.returns

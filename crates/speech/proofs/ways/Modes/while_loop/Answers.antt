@@ -1,7 +1,6 @@
 -- `Modes::while_loop`: mode by mode. Assumes nothing.
 use mathlib.Core.Path.{refl}
 use Rattle.speech.proofs.Bits.{pair}
-use borrow.Author.Rules.{rules}
 use Rattle.speech.proofs.ways.Modes.while_loop.Goals as goal
 
 pub returns : goal.returns

@@ -1,5 +1,4 @@
 -- `Ways::entered`: by whether it can be. Assumes nothing.
-use borrow.Author.Rules.{rules}
 use Rattle.speech.proofs.ways.Ways.entered.Goals as goal
 
 pub returns-then-can : goal.returns-then-can

@@ -1,7 +1,6 @@
 -- `Ways::packed`: three bits, and m above them. Assumes nothing.
 use mathlib.Core.Path.{refl}
 use Rattle.speech.proofs.Bits.{packed-ways}
-use borrow.Author.Rules.{rules}
 use Rattle.speech.proofs.ways.Ways.packed.Goals as goal
 
 pub returns : goal.returns

@@ -1,7 +1,6 @@
 -- `Ways::then`: the definition, call by call. Assumes nothing.
 use Rattle.speech.specs.Both.{ways_of}
 use Rattle.speech.proofs.Bits.{entering-is}
-use borrow.Author.Rules.{rules}
 use Rattle.speech.proofs.ways.Ways.then.Goals as goal
 
 pub returns : goal.returns
