@@ -3,8 +3,8 @@ ghost use Rattle.std.specs.Prelude.{◌≤◌, length};
 
 use crate::build::{Length, build, states};
 use crate::scan::sections;
-use bytes::scan::find;
 use model::Verdict;
+use std::io;
 
 // Bytes kept for an image, and words for its sets.
 const IMAGE: usize = 65536;
@@ -16,74 +16,74 @@ const OLD: u64 = 12297829382473034410;
 
 // Whether the words from a place on are still the old ones.
 fn kept(sets: &[u64], from: usize) -> bool {
-    let mut i = from;
-    while i < sets.len() {
+    for i in from..sets.len() {
         if sets[i] != OLD {
             return false;
         }
-        i += 1;
     }
     true
 }
 
-fn number(n: u64) {
-    io::write_all(1, b" ");
-    io::print_decimal(1, n);
+fn number(rt: &impl Print, n: u64) -> io::Result<()> {
+    rt.write_all(b" ")?;
+    rt.print(n)
 }
 
-fn masks(sets: &[u64], count: usize) {
-    let mut i = 0;
-    while i < count && i < sets.len() {
-        number(sets[i]);
-        i += 1;
+fn masks(rt: &impl Print, sets: &[u64], count: usize) -> io::Result<()> {
+    for mask in sets.iter().take(count) {
+        number(rt, *mask)?;
     }
+    Ok(())
 }
 
 // The rest of the answer's line, and how many words of the sets buffer may have changed.
-fn answer(v: Verdict, sets: &[u64], states: usize) -> usize {
+fn answer(rt: &impl Print, v: Verdict, sets: &[u64], states: usize) -> io::Result<usize> {
     match v {
         Verdict::Accepted => {
-            io::write_all(1, b": accepted");
-            masks(sets, states);
-            states
+            rt.write_all(b": accepted")?;
+            masks(rt, sets, states)?;
+            Ok(states)
         }
         Verdict::Refused(y) => {
-            io::write_all(1, b":");
-            number(y.number() as u64);
-            number(y.place() as u64);
-            0
+            rt.write_all(b":")?;
+            number(rt, y.number() as u64)?;
+            number(rt, y.place() as u64)?;
+            Ok(0)
         }
     }
 }
 
 // The call gets the first words of sets alone, so that a write past its room shows behind them.
-fn judged(image: &[u8], length: usize, sets: &mut [u64], room: usize, states: usize) {
+fn judged(
+    rt: &impl Print,
+    image: &[u8],
+    length: usize,
+    sets: &mut [u64],
+    room: usize,
+    states: usize,
+) -> io::Result<()> {
     if image.len() < length {
-        io::write_all(1, b": bad line\n");
-        return;
+        return rt.write_all(b": bad line\n");
     }
     if sets.len() < room {
-        io::write_all(1, b": bad line\n");
-        return;
+        return rt.write_all(b": bad line\n");
     }
     let v = ntif::check(&image[..length], &mut sets[..room]);
-    let from = answer(v, sets, states);
+    let from = answer(rt, v, sets, states)?;
     if !kept(sets, from) {
-        io::write_all(1, b" CHANGED");
+        rt.write_all(b" CHANGED")?;
     }
-    io::write_all(1, b"\n");
+    rt.write_all(b"\n")
 }
 
 // A line's case, its name already written. Both buffers are new for each, so that no case sees another.
-fn case(line: &[u8], from: usize) {
+fn case(rt: &impl Print, line: &[u8], from: usize) -> io::Result<()> {
     let mut image = [0u8; IMAGE];
     let mut sets = [OLD; SETS];
     let s = sections(line, from, &mut image);
     match build(s, &mut image) {
-        Length::Bad => {
-            io::write_all(1, b": bad line\n");
-        }
-        Length::Bytes(n) => judged(&image, n, &mut sets, s.room as usize, states(s)),
+        Length::Bad => rt.write_all(b": bad line\n"),
+        Length::Bytes(n) => judged(rt, &image, n, &mut sets, s.room as usize, states(s)),
     }
 }
 
@@ -91,9 +91,7 @@ fn case(line: &[u8], from: usize) {
 fn last(text: &[u8], b: u8) -> usize
     ensures { result ≤ length text.now }
 {
-    let mut i = text.len();
-    while 0 < i {
-        i -= 1;
+    for i in (0..text.len()).rev() {
         if text[i] == b {
             return i;
         }
@@ -102,32 +100,46 @@ fn last(text: &[u8], b: u8) -> usize
 }
 
 // Text that is no case is written as it stands, so that the lines of input and output go together.
-fn line(text: &[u8]) {
+fn line(rt: &impl Print, text: &[u8]) -> io::Result<()> {
     if text.len() == 0 || text[0] == b'#' {
-        io::write_all(1, text);
-        io::write_all(1, b"\n");
-        return;
+        rt.write_all(text)?;
+        return rt.write_all(b"\n");
     }
     let colon = last(text, b':');
-    io::write_all(1, &text[..colon]);
-    case(text, colon + 1);
+    rt.write_all(&text[..colon])?;
+    case(rt, text, colon + 1)
+}
+
+// The first place from one on at which a byte stands, or the length.
+fn find(text: &[u8], from: usize, b: u8) -> usize
+    requires { from ≤ length text.now }
+    ensures behind { from ≤ result }
+    ensures within { result ≤ length text.now }
+{
+    for i in from..text.len() {
+        if text[i] == b {
+            return i;
+        }
+    }
+    text.len()
 }
 
 // Every line; the last one may lack its newline.
-pub(crate) fn lines(text: &[u8]) {
+pub(crate) fn lines(rt: &impl Print, text: &[u8]) -> io::Result<()> {
     let mut at = 0;
     while at < text.len() {
-        let end = find(text, at, text.len(), b'\n');
-        line(&text[at..end]);
+        let end = find(text, at, b'\n');
+        line(rt, &text[at..end])?;
         at = end + 1;
     }
+    Ok(())
 }
 
 // An image of zeros, with room for all states.
-pub(crate) fn zeros(length: usize) {
+pub(crate) fn zeros(rt: &impl Print, length: usize) -> io::Result<()> {
     let image = [0u8; IMAGE];
     let mut sets = [OLD; SETS];
-    io::write_all(1, b"zeros of length");
-    number(length as u64);
-    judged(&image, length, &mut sets, 64, 0);
+    rt.write_all(b"zeros of length")?;
+    number(rt, length as u64)?;
+    judged(rt, &image, length, &mut sets, 64, 0)
 }

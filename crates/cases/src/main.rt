@@ -10,28 +10,33 @@
 // The answer is 'accepted' and the masks of the states, or number and place. CHANGED behind it says that a word of the
 // sets buffer changed that had to stay. A line that is no case gives 'bad line'. Lines that begin with '#' and empty
 // lines are written as they stand. After the lines some images of zeros follow, whose lengths no line says well.
+#![tactic(auto)]
+
 mod build;
 mod case;
 mod put;
 mod scan;
 
+use std::io;
+use std::io::Read;
+
 // Room for all of standard input.
 const TEXT: usize = 524288;
 
-fn main() {
-    let mut text = [0u8; TEXT];
-    let n = io::read_full(0, &mut text);
-    case::lines(&text[..n]);
-    if n == TEXT {
-        io::write_all(1, b"standard input is longer than its room\n");
+fn main(rt: HostRuntime) -> io::Result<()> {
+    let mut text = Vec::new(rt.alloc());
+    rt.reader().take(TEXT as u64).read_to_end(&mut text)?;
+    case::lines(&rt, &text)?;
+    if text.len() == TEXT {
+        rt.write_all(b"standard input is longer than its room\n")?;
     }
-    case::zeros(0);
-    case::zeros(1);
-    case::zeros(15);
-    case::zeros(16);
-    case::zeros(37);
-    case::zeros(38);
-    case::zeros(16816);
-    case::zeros(16817);
-    case::zeros(65000);
+    case::zeros(&rt, 0)?;
+    case::zeros(&rt, 1)?;
+    case::zeros(&rt, 15)?;
+    case::zeros(&rt, 16)?;
+    case::zeros(&rt, 37)?;
+    case::zeros(&rt, 38)?;
+    case::zeros(&rt, 16816)?;
+    case::zeros(&rt, 16817)?;
+    case::zeros(&rt, 65000)
 }

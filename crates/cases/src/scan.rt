@@ -175,10 +175,8 @@ impl Reading {
 // A case's sections, from a place of its line on.
 pub(crate) fn sections(line: &[u8], from: usize, image: &mut [u8]) -> Reading {
     let mut s = Reading::new();
-    let mut i = from;
-    while i < line.len() {
+    for i in from..line.len() {
         s = s.step(line[i], image);
-        i += 1;
     }
     s.close(image, 2)
 }

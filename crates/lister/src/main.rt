@@ -1,13 +1,18 @@
 // The lister: an image on standard input, its listing on standard output.
-use libc::{STDIN_FILENO, STDOUT_FILENO};
+#![tactic(auto)]
+
 use listing::listing;
 use model::Image;
+use std::io;
+use std::io::Read;
 
 // One byte more than an image may have is read, so that a longer one is refused.
-fn main() {
-    let mut image = [0u8; Image::LENGTH as usize + 1];
+const ROOM: u64 = Image::LENGTH as u64 + 1;
+
+fn main(rt: HostRuntime) -> io::Result<()> {
+    let mut image = Vec::new(rt.alloc());
     let mut text = [0u8; 2048];
-    let n = io::read_full(STDIN_FILENO, &mut image);
-    let end = listing(&image[..n], &mut text);
-    io::write_all(STDOUT_FILENO, &text[..end]);
+    rt.reader().take(ROOM).read_to_end(&mut image)?;
+    let end = listing(&image, &mut text);
+    rt.write_all(&text[..end])
 }

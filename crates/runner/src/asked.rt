@@ -1,9 +1,11 @@
 // What the arguments ask for.
-ghost use Rattle.std.specs.Prelude.{◌≤◌, length};
+ghost use Rattle.std.specs.Prelude.{◌≤◌, length, IfOk};
 
+use crate::args::{LONGEST, arg};
 use crate::load;
-use libc::STDERR_FILENO;
 use numerals::{Word, read};
+use std::io;
+use std::rt::{Env, Files};
 use words::put_words;
 
 // The first argument: help, or whether check may refuse.
@@ -20,17 +22,7 @@ const PARAMETERS: usize = 65;
 const WORDS: usize = 1024;
 
 fn same(a: &[u8], b: &[u8]) -> bool {
-    let mut i = 0;
-    if a.len() != b.len() {
-        return false;
-    }
-    while i < a.len() && i < b.len() {
-        if a[i] != b[i] {
-            return false;
-        }
-        i += 1;
-    }
-    true
+    a == b
 }
 
 pub(crate) fn option(word: &[u8]) -> Wish {
@@ -46,19 +38,19 @@ pub(crate) fn option(word: &[u8]) -> Wish {
     Wish::Checked
 }
 
-fn argument(i: usize) -> Word {
+fn argument(rt: &impl Env, i: usize) -> Word {
     let mut word = [0u8; 16];
-    let n = os::arg(i, &mut word);
+    let n = arg(rt, i, &mut word);
     read(&word[..n])
 }
 
-fn complain(what: &[u8], i: usize) {
-    let mut word = io::buffer();
-    let n = os::arg(i, &mut word);
-    io::write_all(STDERR_FILENO, b"runner: ");
-    io::write_all(STDERR_FILENO, what);
-    io::write_all(STDERR_FILENO, &word[..n]);
-    io::write_all(STDERR_FILENO, b"\n");
+fn complain(rt: &impl Env, err: &impl Print, what: &[u8], i: usize) -> io::Result<()> {
+    let mut word = [0u8; LONGEST];
+    let n = arg(rt, i, &mut word);
+    err.write_all(b"runner: ")?;
+    err.write_all(what)?;
+    err.write_all(&word[..n])?;
+    err.write_all(b"\n")
 }
 
 // Numbers taken from the arguments: how many, and where the reading ended; wrong where it's said already why.
@@ -70,17 +62,23 @@ struct Taken {
 }
 
 // The numbers from an argument on, up to two dashes or the last argument.
-fn numbers(from: usize, end: usize, given: &mut [i32]) -> Taken
-    ensures { result.count ≤ length given.old }
+fn numbers(
+    rt: &impl Env,
+    err: &impl Print,
+    from: usize,
+    end: usize,
+    given: &mut [i32],
+) -> io::Result<Taken>
+    ensures { IfOk result (λ t. t.count ≤ length given.old) }
 {
     let mut i = from;
     let mut k = 0;
     let mut wrong = false;
     while i < end {
-        match argument(i) {
+        match argument(rt, i) {
             Word::Number(z) => {
                 if given.len() <= k {
-                    complain(b"too many numbers, from this one on: ", i);
+                    complain(rt, err, b"too many numbers, from this one on: ", i)?;
                     wrong = true;
                     break;
                 }
@@ -89,56 +87,74 @@ fn numbers(from: usize, end: usize, given: &mut [i32]) -> Taken
             }
             Word::Dashes => break,
             Word::Neither => {
-                complain(b"no number of 32 bits: ", i);
+                complain(rt, err, b"no number of 32 bits: ", i)?;
                 wrong = true;
                 break;
             }
         }
         i += 1;
     }
-    Taken {
+    Ok(Taken {
         count: k,
         next: i,
         wrong: wrong,
-    }
+    })
 }
 
 // The script's words, behind the two dashes at an argument, in bytes.
-fn script(at: usize, end: usize, bytes: &mut [u8]) -> Taken
+fn script(
+    rt: &impl Env,
+    err: &impl Print,
+    at: usize,
+    end: usize,
+    bytes: &mut [u8],
+) -> io::Result<Taken>
     requires { 4096 ≤ length bytes.old }
-    ensures { result.count ≤ 1024 }
+    ensures { IfOk result (λ t. t.count ≤ 1024) }
 {
     let mut given = [0i32; WORDS];
     if end <= at {
-        return Taken {
+        return Ok(Taken {
             count: 0,
             next: at,
             wrong: false,
-        };
+        });
     }
-    let s = numbers(at + 1, end, &mut given);
+    let s = numbers(rt, err, at + 1, end, &mut given)?;
     put_words(bytes, &given, s.count);
-    s
+    Ok(s)
 }
 
 // The automaton that an argument names, with the numbers behind it.
-pub(crate) fn automaton(at: usize, end: usize, unchecked: bool) {
+pub(crate) fn automaton(
+    rt: &(impl Env + Files + AllocGlobal + Print),
+    err: &impl Print,
+    at: usize,
+    end: usize,
+    unchecked: bool,
+) -> io::Result<()> {
     let mut params = [0i32; PARAMETERS];
     let mut bytes = [0u8; 4 * WORDS];
     if end <= at {
-        return;
+        return Ok(());
     }
-    let p = numbers(at + 1, end, &mut params);
+    let p = numbers(rt, err, at + 1, end, &mut params)?;
     if p.wrong {
-        return;
+        return Ok(());
     }
-    let s = script(p.next, end, &mut bytes);
+    let s = script(rt, err, p.next, end, &mut bytes)?;
     if s.wrong {
-        return;
+        return Ok(());
     }
     if s.next < end {
-        complain(b"a second script: ", s.next);
-        return;
+        return complain(rt, err, b"a second script: ", s.next);
     }
-    load::run(at, &params[..p.count], &bytes[..4 * s.count], unchecked);
+    load::run(
+        rt,
+        err,
+        at,
+        &params[..p.count],
+        &bytes[..4 * s.count],
+        unchecked,
+    )
 }

@@ -1,120 +1,108 @@
 // The lines that are written.
-use libc::STDOUT_FILENO;
 use model::{Image, Move, Refusal, State};
+use std::io;
 use values::size;
 
-pub(crate) fn text(bytes: &[u8]) {
-    io::write_all(STDOUT_FILENO, bytes);
+pub(crate) fn text(rt: &impl Print, bytes: &[u8]) -> io::Result<()> {
+    rt.write_all(bytes)
 }
 
-fn unsigned(n: u32) {
-    io::print_decimal(STDOUT_FILENO, n as u64);
+fn unsigned(rt: &impl Print, n: u32) -> io::Result<()> {
+    rt.print(n)
 }
 
-// size gives a negative number's distance from -1.
-fn signed(n: i32) {
-    let m = size(n) as u64;
-    if n < 0 {
-        text(b"-");
-        io::print_decimal(STDOUT_FILENO, m + 1);
-        return;
-    }
-    io::print_decimal(STDOUT_FILENO, m);
+fn signed(rt: &impl Print, n: i32) -> io::Result<()> {
+    rt.print(n)
 }
 
 // A word of the store; an undefined one is u.
-fn slot(n: i32) {
-    text(b" ");
+fn slot(rt: &impl Print, n: i32) -> io::Result<()> {
+    text(rt, b" ")?;
     if n == Image::UNDEFINED {
-        text(b"u");
-        return;
+        return text(rt, b"u");
     }
-    signed(n);
+    signed(rt, n)
 }
 
-pub(crate) fn store(words: &[i32]) {
-    let mut i = 0;
-    text(b"store:");
-    while i < words.len() {
-        slot(words[i]);
-        i += 1;
+pub(crate) fn store(rt: &impl Print, words: &[i32]) -> io::Result<()> {
+    text(rt, b"store:")?;
+    for n in words {
+        slot(rt, *n)?;
     }
-    text(b"\n");
+    text(rt, b"\n")
 }
 
 // What a refusal's place is.
-fn place(n: u16) {
+fn place(rt: &impl Print, n: u16) -> io::Result<()> {
     match n {
-        5 | 7..=9 | 21..=27 => text(b" at row "),
-        6 | 11 | 12 => text(b" at state "),
-        15 | 18 => text(b" at variable "),
-        _ => text(b" at "),
+        5 | 7..=9 | 21..=27 => text(rt, b" at row "),
+        6 | 11 | 12 => text(rt, b" at state "),
+        15 | 18 => text(rt, b" at variable "),
+        _ => text(rt, b" at "),
     }
 }
 
-pub(crate) fn refused(y: Refusal) {
+pub(crate) fn refused(rt: &impl Print, y: Refusal) -> io::Result<()> {
     let n = y.number();
-    text(b"refused, ");
-    unsigned(n as u32);
+    text(rt, b"refused, ")?;
+    unsigned(rt, n as u32)?;
     match y {
-        Refusal::NoCondition(_) => text(b" at the condition, place "),
-        _ => place(n),
+        Refusal::NoCondition(_) => text(rt, b" at the condition, place ")?,
+        _ => place(rt, n)?,
     }
-    unsigned(y.place() as u32);
-    text(b"\n");
+    unsigned(rt, y.place() as u32)?;
+    text(rt, b"\n")
 }
 
 // The values of a label, whose second word is their number.
-fn values(words: &[i32]) {
-    let mut i = 2;
+fn values(rt: &impl Print, words: &[i32]) -> io::Result<()> {
     if words.len() < 2 {
-        return;
+        return Ok(());
     }
     let count = size(words[1]) as usize;
-    while i < words.len() && i - 2 < count {
-        text(b" ");
-        signed(words[i]);
-        i += 1;
+    for n in words.iter().skip(2).take(count) {
+        text(rt, b" ")?;
+        signed(rt, *n)?;
     }
+    Ok(())
 }
 
-fn label(words: &[i32]) {
+fn label(rt: &impl Print, words: &[i32]) -> io::Result<()> {
     if words.len() < 1 {
-        return;
+        return Ok(());
     }
     if words[0] < 0 {
-        text(b"no communication");
-        return;
+        return text(rt, b"no communication");
     }
-    text(b"gate ");
-    signed(words[0]);
-    values(words);
+    text(rt, b"gate ")?;
+    signed(rt, words[0])?;
+    values(rt, words)
 }
 
-pub(crate) fn at(q: State) {
-    text(b"state ");
-    unsigned(q.0 as u32);
-    text(b": ");
+pub(crate) fn at(rt: &impl Print, q: State) -> io::Result<()> {
+    text(rt, b"state ")?;
+    unsigned(rt, q.0 as u32)?;
+    text(rt, b": ")
 }
 
-pub(crate) fn moved(m: Move, words: &[i32]) {
+pub(crate) fn moved(rt: &impl Print, m: Move, words: &[i32]) -> io::Result<()> {
     let next = m.next;
-    label(words);
-    text(b", to ");
-    unsigned(next.0 as u32);
-    text(b", units ");
-    unsigned(m.units);
-    text(b", words ");
-    unsigned(m.words);
-    text(b"\n");
+    label(rt, words)?;
+    text(rt, b", to ")?;
+    unsigned(rt, next.0 as u32)?;
+    text(rt, b", units ")?;
+    unsigned(rt, m.units)?;
+    text(rt, b", words ")?;
+    unsigned(rt, m.words)?;
+    text(rt, b"\n")
 }
 
 // What of the script no step has read.
-pub(crate) fn left(bytes: usize) {
+pub(crate) fn left(rt: &impl Print, bytes: usize) -> io::Result<()> {
     if bytes / 4 == 0 {
-        return;
+        return Ok(());
     }
-    text(b"words left over: ");
-    io::print_decimal(STDOUT_FILENO, (bytes / 4) as u64);
-    text(b"\n");
+    text(rt, b"words left over: ")?;
+    rt.print(bytes / 4)?;
+    text(rt, b"\n")
 }

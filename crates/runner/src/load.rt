@@ -1,61 +1,58 @@
 // The image's file.
+use crate::args::{LONGEST, arg};
 use crate::run::automaton;
-use libc::STDERR_FILENO;
 use model::Image;
+use std::fs::File;
+use std::io;
+use std::io::Read;
+use std::rt::{Env, Files};
 
 // One byte more than an image may have is read, so that a longer one is refused.
-const ROOM: usize = Image::LENGTH as usize + 1;
+const ROOM: u64 = Image::LENGTH as u64 + 1;
 
-#[derive(Clone, Copy)]
-enum Loaded {
-    Bytes(usize),
-    Failed,
+// An empty file gives nothing; one that can't be read is an error.
+fn fill(file: impl Read + Drop, image: &mut Vec<u8>) -> io::Result<()> {
+    file.take(ROOM).read_to_end(image)?;
+    Ok(())
 }
 
-// An empty file gives nothing; one that can't be read fails at a further read too.
-fn fill(fd: i32, image: &mut [u8]) -> Loaded {
-    let n = io::read_full(fd, image);
-    if n == 0 {
-        let mut more = [0u8; 1];
-        if libc::read(fd, &mut more) < 0 {
-            return Loaded::Failed;
-        }
+// The system's words for an error, without its number.
+fn reason(text: &str) -> &str {
+    match text.split_once(" (os error ") {
+        Some((words, _)) => words,
+        None => text,
     }
-    Loaded::Bytes(n)
 }
 
-fn fail(path: &[u8]) {
-    io::write_all(STDERR_FILENO, b"runner: can't read ");
-    os::fail(path);
+fn fail(rt: &impl AllocGlobal, err: &impl Print, path: &[u8], e: io::Error) -> io::Result<()> {
+    let text = format!(in rt.alloc(); "{e}")?;
+    err.write_all(b"runner: can't read ")?;
+    err.write_all(path)?;
+    err.write_all(b": ")?;
+    err.println(reason(text.as_str()))
 }
 
-fn bytes(at: usize, image: &mut [u8]) -> Loaded {
-    let mut path = io::buffer();
-    let n = os::arg(at, &mut path);
-    let fd = os::open_read(&path[..n]);
-    if fd < 0 {
-        fail(&path[..n]);
-        return Loaded::Failed;
-    }
-    let r = fill(fd, image);
-    match r {
-        Loaded::Failed => fail(&path[..n]),
-        Loaded::Bytes(_) => {}
-    }
-    libc::close(fd);
-    r
+// The bytes of the file at a path, which has to be text.
+fn bytes(rt: &(impl Files + AllocGlobal), path: &[u8]) -> io::Result<Vec<u8>> {
+    let mut image = Vec::new(rt.alloc());
+    let path = io::read_to_string(rt.alloc(), path)?;
+    fill(File::open(rt, path.as_str())?, &mut image)?;
+    Ok(image)
 }
 
 // The automaton in the file that an argument names.
-pub(crate) fn run(at: usize, params: &[i32], script: &[u8], unchecked: bool) {
-    let mut image = [0u8; ROOM];
-    let r = bytes(at, &mut image);
-    match r {
-        Loaded::Failed => {}
-        Loaded::Bytes(n) => {
-            if n <= ROOM {
-                automaton(&image[..n], params, script, unchecked);
-            }
-        }
+pub(crate) fn run(
+    rt: &(impl Env + Files + AllocGlobal + Print),
+    err: &impl Print,
+    at: usize,
+    params: &[i32],
+    script: &[u8],
+    unchecked: bool,
+) -> io::Result<()> {
+    let mut path = [0u8; LONGEST];
+    let n = arg(rt, at, &mut path);
+    match bytes(rt, &path[..n]) {
+        Ok(image) => automaton(rt, &image, params, script, unchecked),
+        Err(e) => fail(rt, err, &path[..n], e),
     }
 }

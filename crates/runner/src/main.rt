@@ -4,37 +4,38 @@
 //
 // It checks the image, starts it with the parameters and makes steps, each fed with the words that the steps before it
 // left over, until one is refused. What keeps it from that is said on standard error.
+#![tactic(auto)]
+
+mod args;
 mod asked;
 mod line;
 mod load;
 mod run;
 mod usage;
 
-use libc::{STDERR_FILENO, STDOUT_FILENO};
+use std::io;
 
 // Bytes of the longest option, and one more: a longer word is none.
 const OPTION: usize = 12;
 
-fn main() {
+fn main(rt: HostRuntime) -> io::Result<()> {
+    let err = rt.stderr();
     let mut word = [0u8; OPTION];
-    let n = os::arg(1, &mut word);
-    let count = os::arg_count();
-    let o = asked::option(&word[..n]);
-    match o {
-        asked::Wish::Help => usage::usage(STDOUT_FILENO),
+    let n = args::arg(&rt, 1, &mut word);
+    let count = args::arg_count(&rt);
+    match asked::option(&word[..n]) {
+        asked::Wish::Help => usage::usage(&rt),
         asked::Wish::Unchecked => {
             if count < 3 {
-                usage::usage(STDERR_FILENO);
-                return;
+                return usage::usage(&err);
             }
-            asked::automaton(2, count, true);
+            asked::automaton(&rt, &err, 2, count, true)
         }
         asked::Wish::Checked => {
             if count < 2 {
-                usage::usage(STDERR_FILENO);
-                return;
+                return usage::usage(&err);
             }
-            asked::automaton(1, count, false);
+            asked::automaton(&rt, &err, 1, count, false)
         }
     }
 }

@@ -5,6 +5,7 @@ use crate::line;
 use image::trailer;
 use model::{Image, State, Stepped, Verdict};
 use ntif::{check, start, step};
+use std::io;
 
 // Steps of a run that doesn't end by itself.
 const STEPS: u32 = 1000;
@@ -52,90 +53,118 @@ fn onward(at: usize, words: u32, end: usize) -> usize
 }
 
 // A step from a place, with what is left of the script, and its line.
-fn one(image: &[u8], p: Place, store: &mut [i32], script: &[u8], label: &mut [i32]) -> Place {
+fn one(
+    rt: &impl Print,
+    image: &[u8],
+    p: Place,
+    store: &mut [i32],
+    script: &[u8],
+    label: &mut [i32],
+) -> io::Result<Place> {
     let q = p.state;
     let at = onward(p.read, 0, script.len());
-    line::at(q);
+    line::at(rt, q)?;
     let r = step(image, q, store, &script[at..], Image::BUDGET, label);
     match r {
         Stepped::Moved(m) => {
             let next = m.next;
             let read = onward(at, m.words, script.len());
-            line::moved(m, label);
-            Place {
+            line::moved(rt, m, label)?;
+            Ok(Place {
                 state: next,
                 read: read,
                 ended: false,
-            }
+            })
         }
         Stepped::NotMoved(y) => {
-            line::refused(y);
-            Place {
+            line::refused(rt, y)?;
+            Ok(Place {
                 state: q,
                 read: at,
                 ended: true,
-            }
+            })
         }
     }
 }
 
 // Step after step until one is refused; then how many bytes of the script are left.
-fn steps(image: &[u8], store: &mut [i32], script: &[u8], label: &mut [i32]) {
+fn steps(
+    rt: &impl Print,
+    image: &[u8],
+    store: &mut [i32],
+    script: &[u8],
+    label: &mut [i32],
+) -> io::Result<()> {
     let mut p = Place {
         state: State(0),
         read: 0,
         ended: false,
     };
-    let mut left = STEPS;
-    while 0 < left && !p.ended {
-        p = one(image, p, store, script, label);
-        left -= 1;
+    for _ in 0..STEPS {
+        if p.ended {
+            break;
+        }
+        p = one(rt, image, p, store, script, label)?;
     }
     if !p.ended {
-        line::text(b"no refusal in 1000 steps\n");
+        line::text(rt, b"no refusal in 1000 steps\n")?;
     }
     let at = p.read;
     if at <= script.len() {
-        line::left(script.len() - at);
+        line::left(rt, script.len() - at)?;
     }
+    Ok(())
 }
 
-fn begin(image: &[u8], params: &[i32], store: &mut [i32], script: &[u8]) {
+fn begin(
+    rt: &impl Print,
+    image: &[u8],
+    params: &[i32],
+    store: &mut [i32],
+    script: &[u8],
+) -> io::Result<()> {
     let mut label = [0i32; Image::LABEL as usize];
     let v = start(image, params, store);
     match v {
         Verdict::Refused(y) => {
-            line::text(b"start: ");
-            line::refused(y);
+            line::text(rt, b"start: ")?;
+            line::refused(rt, y)
         }
         Verdict::Accepted => {
-            steps(image, store, script, &mut label);
-            line::store(store);
+            steps(rt, image, store, script, &mut label)?;
+            line::store(rt, store)
         }
     }
 }
 
 // Whether the run goes on after check.
-fn checked(image: &[u8], unchecked: bool) -> bool {
+fn checked(rt: &impl Print, image: &[u8], unchecked: bool) -> io::Result<bool> {
     let mut sets = [0u64; Image::STATES as usize];
     let v = check(image, &mut sets);
-    line::text(b"check: ");
+    line::text(rt, b"check: ")?;
     match v {
         Verdict::Accepted => {
-            line::text(b"accepted\n");
-            true
+            line::text(rt, b"accepted\n")?;
+            Ok(true)
         }
         Verdict::Refused(y) => {
-            line::refused(y);
-            unchecked
+            line::refused(rt, y)?;
+            Ok(unchecked)
         }
     }
 }
 
-pub(crate) fn automaton(image: &[u8], params: &[i32], script: &[u8], unchecked: bool) {
+pub(crate) fn automaton(
+    rt: &impl Print,
+    image: &[u8],
+    params: &[i32],
+    script: &[u8],
+    unchecked: bool,
+) -> io::Result<()> {
     let mut store = [0i32; VARIABLES];
     let n = variables(image);
-    if checked(image, unchecked) {
-        begin(image, params, &mut store[..n], script);
+    if checked(rt, image, unchecked)? {
+        begin(rt, image, params, &mut store[..n], script)?;
     }
+    Ok(())
 }

@@ -1,69 +1,57 @@
 // What a case's line says behind its name.
-use libc::STDOUT_FILENO;
 use model::{Move, Refusal};
-use values::size;
+use std::io;
 
-pub(crate) fn text(bytes: &[u8]) {
-    io::write_all(STDOUT_FILENO, bytes);
+pub(crate) fn text(rt: &impl Print, bytes: &[u8]) -> io::Result<()> {
+    rt.write_all(bytes)
 }
 
-fn unsigned(n: u32) {
-    text(b" ");
-    io::print_decimal(STDOUT_FILENO, n as u64);
+fn unsigned(rt: &impl Print, n: u32) -> io::Result<()> {
+    text(rt, b" ")?;
+    rt.print(n)
 }
 
-// size gives a negative number's distance from -1.
-fn signed(n: i32) {
-    let m = size(n) as u64;
-    if n < 0 {
-        text(b" -");
-        io::print_decimal(STDOUT_FILENO, m + 1);
-        return;
-    }
-    text(b" ");
-    io::print_decimal(STDOUT_FILENO, m);
+fn signed(rt: &impl Print, n: i32) -> io::Result<()> {
+    text(rt, b" ")?;
+    rt.print(n)
 }
 
 // A word; the mark of an undefined variable is u.
-fn word(n: i32) {
+fn word(rt: &impl Print, n: i32) -> io::Result<()> {
     if n == 65536 {
-        text(b" u");
-        return;
+        return text(rt, b" u");
     }
-    signed(n);
+    signed(rt, n)
 }
 
 // Words behind a bar, as many as said.
-pub(crate) fn words(s: &[i32], count: usize) {
-    let mut i = 0;
-    text(b" |");
-    while i < count && i < s.len() {
-        word(s[i]);
-        i += 1;
+pub(crate) fn words(rt: &impl Print, s: &[i32], count: usize) -> io::Result<()> {
+    text(rt, b" |")?;
+    for n in s.iter().take(count) {
+        word(rt, *n)?;
     }
+    Ok(())
 }
 
-pub(crate) fn refused(y: Refusal) {
-    unsigned(y.number() as u32);
-    unsigned(y.place() as u32);
+pub(crate) fn refused(rt: &impl Print, y: Refusal) -> io::Result<()> {
+    unsigned(rt, y.number() as u32)?;
+    unsigned(rt, y.place() as u32)
 }
 
-pub(crate) fn moved(m: Move) {
+pub(crate) fn moved(rt: &impl Print, m: Move) -> io::Result<()> {
     let next = m.next;
-    text(b" moved");
-    unsigned(next.0 as u32);
-    unsigned(m.units);
-    unsigned(m.words);
+    text(rt, b" moved")?;
+    unsigned(rt, next.0 as u32)?;
+    unsigned(rt, m.units)?;
+    unsigned(rt, m.words)
 }
 
 // Words from a place on that had to stay.
-pub(crate) fn stays(s: &[i32], before: &[i32], from: usize) {
-    let mut i = from;
-    while i < s.len() && i < before.len() {
+pub(crate) fn stays(rt: &impl Print, s: &[i32], before: &[i32], from: usize) -> io::Result<()> {
+    for i in from..s.len().min(before.len()) {
         if s[i] != before[i] {
-            text(b" CHANGED");
-            return;
+            return text(rt, b" CHANGED");
         }
-        i += 1;
     }
+    Ok(())
 }

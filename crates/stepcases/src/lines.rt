@@ -3,15 +3,13 @@ ghost use Rattle.std.specs.Prelude.{◌≤◌, length};
 
 use crate::answer;
 use crate::calls::case;
-use bytes::scan::find;
+use std::io;
 
 // The last place at which a byte stands, or the length.
 fn last(text: &[u8], b: u8) -> usize
     ensures { result ≤ length text.now }
 {
-    let mut i = text.len();
-    while 0 < i {
-        i -= 1;
+    for i in (0..text.len()).rev() {
         if text[i] == b {
             return i;
         }
@@ -27,42 +25,54 @@ fn stands(text: &[u8], at: usize, word: &[u8]) -> bool {
     if text.len() - word.len() < at {
         return false;
     }
-    let mut i = 0;
-    while i < word.len() {
+    for i in 0..word.len() {
         if text[at + i] != word[i] {
             return false;
         }
-        i += 1;
     }
     true
 }
 
 // Text that is no case is written as it stands, so that the lines of input and output go together.
-fn line(text: &[u8]) {
+fn line(rt: &impl Print, text: &[u8]) -> io::Result<()> {
     if text.len() == 0 || text[0] == b'#' {
-        answer::text(text);
-        answer::text(b"\n");
-        return;
+        answer::text(rt, text)?;
+        return answer::text(rt, b"\n");
     }
     let colon = last(text, b':');
-    answer::text(&text[..colon]);
-    answer::text(b":");
+    answer::text(rt, &text[..colon])?;
+    answer::text(rt, b":")?;
     if stands(text, colon, b": start |") {
-        case(text, colon + 8, 1);
+        case(rt, text, colon + 8, 1)?;
     } else if stands(text, colon, b": step |") {
-        case(text, colon + 7, 0);
+        case(rt, text, colon + 7, 0)?;
     } else {
-        answer::text(b" bad line");
+        answer::text(rt, b" bad line")?;
     }
-    answer::text(b"\n");
+    answer::text(rt, b"\n")
+}
+
+// The first place from one on at which a byte stands, or the length.
+fn find(text: &[u8], from: usize, b: u8) -> usize
+    requires { from ≤ length text.now }
+    ensures behind { from ≤ result }
+    ensures within { result ≤ length text.now }
+{
+    for i in from..text.len() {
+        if text[i] == b {
+            return i;
+        }
+    }
+    text.len()
 }
 
 // Every line; the last one may lack its newline.
-pub(crate) fn lines(text: &[u8]) {
+pub(crate) fn lines(rt: &impl Print, text: &[u8]) -> io::Result<()> {
     let mut at = 0;
     while at < text.len() {
-        let end = find(text, at, text.len(), b'\n');
-        line(&text[at..end]);
+        let end = find(text, at, b'\n');
+        line(rt, &text[at..end])?;
         at = end + 1;
     }
+    Ok(())
 }

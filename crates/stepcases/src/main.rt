@@ -13,6 +13,8 @@
 // The answer is number and place; or 'started' and the store; or 'moved', next state, units and words, the store and the
 // label. CHANGED behind it says that a word changed that had to stay. A line that is no case gives 'bad line'. Lines that
 // begin with '#' and empty lines are written as they stand.
+#![tactic(auto)]
+
 mod answer;
 mod build;
 mod calls;
@@ -20,16 +22,18 @@ mod lines;
 mod put;
 mod scan;
 
-use libc::STDIN_FILENO;
+use std::io;
+use std::io::Read;
 
 // Room for all of standard input.
 const TEXT: usize = 524288;
 
-fn main() {
-    let mut text = [0u8; TEXT];
-    let n = io::read_full(STDIN_FILENO, &mut text);
-    lines::lines(&text[..n]);
-    if n == TEXT {
-        answer::text(b"standard input is longer than its room\n");
+fn main(rt: HostRuntime) -> io::Result<()> {
+    let mut text = Vec::new(rt.alloc());
+    rt.reader().take(TEXT as u64).read_to_end(&mut text)?;
+    lines::lines(&rt, &text)?;
+    if text.len() == TEXT {
+        answer::text(&rt, b"standard input is longer than its room\n")?;
     }
+    Ok(())
 }

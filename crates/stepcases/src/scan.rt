@@ -277,10 +277,8 @@ pub(crate) fn sections(
     given: &mut [u8],
 ) -> Reading {
     let mut s = Reading::new(section);
-    let mut i = from;
-    while i < line.len() {
+    for i in from..line.len() {
         s = s.step(line[i], image, store, given);
-        i += 1;
     }
     s.close(false, image, store, given)
 }

@@ -1,36 +1,28 @@
 // The lines that are written.
-use libc::STDOUT_FILENO;
 use model::{Move, Refusal, State};
+use std::io;
 use values::size;
 
-pub(crate) fn text(bytes: &[u8]) {
-    io::write_all(STDOUT_FILENO, bytes);
+pub(crate) fn text(rt: &impl Print, bytes: &[u8]) -> io::Result<()> {
+    rt.write_all(bytes)
 }
 
-// size gives a negative number's distance from -1.
-fn signed(n: i32) {
-    let m = size(n) as u64;
-    if n < 0 {
-        text(b"-");
-        io::print_decimal(STDOUT_FILENO, m + 1);
-        return;
-    }
-    io::print_decimal(STDOUT_FILENO, m);
+fn signed(rt: &impl Print, n: i32) -> io::Result<()> {
+    rt.print(n)
 }
 
-fn unsigned(n: u32, after: &[u8]) {
-    io::print_decimal(STDOUT_FILENO, n as u64);
-    text(after);
+fn unsigned(rt: &impl Print, n: u32, after: &[u8]) -> io::Result<()> {
+    rt.print(n)?;
+    text(rt, after)
 }
 
 // The words from a place to another, each behind a blank; a place past the last word ends them too.
-fn some(words: &[i32], from: usize, end: usize) {
-    let mut i = from;
-    while i < end && i < words.len() {
-        text(b" ");
-        signed(words[i]);
-        i += 1;
+fn some(rt: &impl Print, words: &[i32], from: usize, end: usize) -> io::Result<()> {
+    for i in from..end.min(words.len()) {
+        text(rt, b" ")?;
+        signed(rt, words[i])?;
     }
+    Ok(())
 }
 
 // Where the values of a label end, whose second word is their number.
@@ -46,30 +38,30 @@ fn end(label: &[i32]) -> usize {
 }
 
 // A label: its gate and its values.
-fn label(words: &[i32]) {
+fn label(rt: &impl Print, words: &[i32]) -> io::Result<()> {
     if 0 < words.len() {
-        signed(words[0]);
+        signed(rt, words[0])?;
     }
-    some(words, 2, end(words));
-    text(b"\n");
+    some(rt, words, 2, end(words))?;
+    text(rt, b"\n")
 }
 
-pub(crate) fn moved(q: State, m: Move, words: &[i32]) {
+pub(crate) fn moved(rt: &impl Print, q: State, m: Move, words: &[i32]) -> io::Result<()> {
     let next = m.next;
-    unsigned(q.0 as u32, b" ");
-    unsigned(next.0 as u32, b" ");
-    unsigned(m.units, b" ");
-    unsigned(m.words, b" ");
-    label(words);
+    unsigned(rt, q.0 as u32, b" ")?;
+    unsigned(rt, next.0 as u32, b" ")?;
+    unsigned(rt, m.units, b" ")?;
+    unsigned(rt, m.words, b" ")?;
+    label(rt, words)
 }
 
-pub(crate) fn refused(y: Refusal) {
-    unsigned(y.number() as u32, b" ");
-    unsigned(y.place() as u32, b"\n");
+pub(crate) fn refused(rt: &impl Print, y: Refusal) -> io::Result<()> {
+    unsigned(rt, y.number() as u32, b" ")?;
+    unsigned(rt, y.place() as u32, b"\n")
 }
 
-pub(crate) fn store(words: &[i32]) {
-    text(b"store");
-    some(words, 0, words.len());
-    text(b"\n");
+pub(crate) fn store(rt: &impl Print, words: &[i32]) -> io::Result<()> {
+    text(rt, b"store")?;
+    some(rt, words, 0, words.len())?;
+    text(rt, b"\n")
 }

@@ -2,6 +2,7 @@
 use crate::line;
 use model::{Image, State, Stepped, Verdict};
 use starting::start;
+use std::io;
 use stepping::take_step;
 
 // Variables of the table writer.
@@ -23,51 +24,55 @@ struct Place {
 }
 
 // A step and its line. The table writer makes no choice and receives nothing: its script is empty.
-fn one(image: &[u8], q: State, store: &mut [i32], label: &mut [i32]) -> Place {
+fn one(
+    rt: &impl Print,
+    image: &[u8],
+    q: State,
+    store: &mut [i32],
+    label: &mut [i32],
+) -> io::Result<Place> {
     let r = take_step(image, q, store, b"", UNITS, label);
     match r {
         Stepped::Moved(m) => {
             let next = m.next;
-            line::moved(q, m, label);
-            Place {
+            line::moved(rt, q, m, label)?;
+            Ok(Place {
                 state: next,
                 ended: false,
-            }
+            })
         }
         Stepped::NotMoved(y) => {
-            line::refused(y);
-            Place {
+            line::refused(rt, y)?;
+            Ok(Place {
                 state: q,
                 ended: true,
-            }
+            })
         }
     }
 }
 
-fn steps(image: &[u8], store: &mut [i32], label: &mut [i32]) {
+fn steps(rt: &impl Print, image: &[u8], store: &mut [i32], label: &mut [i32]) -> io::Result<()> {
     let mut q = State(0);
-    let mut left = STEPS;
-    while 0 < left {
-        let p = one(image, q, store, label);
+    for _ in 0..STEPS {
+        let p = one(rt, image, q, store, label)?;
         if p.ended {
-            return;
+            return Ok(());
         }
-        let next = p.state;
-        q = next;
-        left -= 1;
+        q = p.state;
     }
+    Ok(())
 }
 
-pub(crate) fn table_writer(image: &[u8]) {
+pub(crate) fn table_writer(rt: &impl Print, image: &[u8]) -> io::Result<()> {
     let params = [Q; 1];
     let mut store = [0i32; VARIABLES];
     let mut label = [0i32; Image::LABEL as usize];
     match start(image, &params, &mut store) {
-        Verdict::Refused(y) => line::refused(y),
+        Verdict::Refused(y) => line::refused(rt, y),
         Verdict::Accepted => {
-            line::text(b"state next units words gate values\n");
-            steps(image, &mut store, &mut label);
-            line::store(&store);
+            line::text(rt, b"state next units words gate values\n")?;
+            steps(rt, image, &mut store, &mut label)?;
+            line::store(rt, &store)
         }
     }
 }
