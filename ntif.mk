@@ -17,6 +17,6 @@ NTIF_CFLAGS := -I$(NTIF_DIR)/include
 NTIF_LIB := $(NTIF_DIR)/target/staticlib/libntif.a
 
 $(NTIF_LIB): $(NTIF_DIR)/crates.txt $(wildcard $(NTIF_DIR)/crates/*/src/*.rt)
-	cd $(NTIF_DIR) && $(NTIF_RT) staticlib ntif
+	NTIF_RT='$(NTIF_RT)' $(NTIF_DIR)/tools/build ntif
 
 .DEFAULT_GOAL := $(NTIF_GOAL)

@@ -103,7 +103,7 @@ fn no_word(script: &[u8], k: usize) -> bool
 }
 
 // A unit on entering the row, before its effect; then what the row says.
-#[cycle(run_action_run_arms_run_body_run_both_run_branches_run_case_run_for_run_select_run_while)]
+#[cycle(running)]
 pub fn run_action(
     image: &&[u8],
     rows: u16,
@@ -133,7 +133,7 @@ pub fn run_action(
 }
 
 // a, and b where a ended.
-#[cycle(run_action_run_arms_run_body_run_both_run_branches_run_case_run_for_run_select_run_while)]
+#[cycle(running)]
 fn run_both(
     image: &&[u8],
     rows: u16,
@@ -155,7 +155,7 @@ fn run_both(
 }
 
 // The branch that the script's next word names; blocked where there is none.
-#[cycle(run_action_run_arms_run_body_run_both_run_branches_run_case_run_for_run_select_run_while)]
+#[cycle(running)]
 fn run_select(
     image: &&[u8],
     rows: u16,
@@ -185,7 +185,7 @@ fn run_select(
 }
 
 // Branch number k, 0 is the first.
-#[cycle(run_action_run_arms_run_body_run_both_run_branches_run_case_run_for_run_select_run_while)]
+#[cycle(running)]
 fn run_branches(
     image: &&[u8],
     rows: u16,
@@ -216,7 +216,7 @@ fn run_branches(
 }
 
 // The first arm that matches the subject.
-#[cycle(run_action_run_arms_run_body_run_both_run_branches_run_case_run_for_run_select_run_while)]
+#[cycle(running)]
 fn run_case(
     image: &&[u8],
     rows: u16,
@@ -238,7 +238,7 @@ fn run_case(
 }
 
 // The first arm that matches z; blocked where none does.
-#[cycle(run_action_run_arms_run_body_run_both_run_branches_run_case_run_for_run_select_run_while)]
+#[cycle(running)]
 fn run_arms(
     image: &&[u8],
     rows: u16,
@@ -261,7 +261,7 @@ fn run_arms(
 }
 
 // A loop's body: null, which changes nothing, without a call.
-#[cycle(run_action_run_arms_run_body_run_both_run_branches_run_case_run_for_run_select_run_while)]
+#[cycle(running)]
 fn run_body(
     image: &&[u8],
     rows: u16,
@@ -286,7 +286,7 @@ fn run_body(
 }
 
 // While e do a; one unit for each further test.
-#[cycle(run_action_run_arms_run_body_run_both_run_branches_run_case_run_for_run_select_run_while)]
+#[cycle(running)]
 fn run_while(
     image: &&[u8],
     rows: u16,
@@ -316,7 +316,7 @@ fn run_while(
 }
 
 // For range g do a: V := low; while V <= high do a; V := V + 1. The assignments cost nothing.
-#[cycle(run_action_run_arms_run_body_run_both_run_branches_run_case_run_for_run_select_run_while)]
+#[cycle(running)]
 fn run_for(
     image: &&[u8],
     rows: u16,

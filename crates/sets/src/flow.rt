@@ -85,7 +85,7 @@ fn jump(
 // What the action of a row leaves where it ends. What it carries to each state is met in place, the states whose sets change
 // are added to moved, an error turns fine false. A sequence is followed in a loop, so that only its first part takes stack;
 // a slice read is handed on by a reference to it, which takes half of what the slice takes.
-#[cycle(walk_walk_arms_walk_branches_walk_first_walk_loop_walk_single)]
+#[cycle(walking)]
 pub fn walk(
     image: &&[u8],
     i: Image,
@@ -112,7 +112,7 @@ pub fn walk(
 }
 
 // The same of a sequence's first part: one without parts takes no stack.
-#[cycle(walk_walk_arms_walk_branches_walk_first_walk_loop_walk_single)]
+#[cycle(walking)]
 fn walk_first(
     image: &&[u8],
     i: Image,
@@ -135,7 +135,7 @@ fn walk_first(
 }
 
 // The same of an action that is no sequence.
-#[cycle(walk_walk_arms_walk_branches_walk_first_walk_loop_walk_single)]
+#[cycle(walking)]
 fn walk_single(
     image: &&[u8],
     i: Image,
@@ -167,7 +167,7 @@ fn walk_single(
 }
 
 // The same of a list of branches.
-#[cycle(walk_walk_arms_walk_branches_walk_first_walk_loop_walk_single)]
+#[cycle(walking)]
 fn walk_branches(
     image: &&[u8],
     i: Image,
@@ -194,7 +194,7 @@ fn walk_branches(
 }
 
 // The same of a list of arms, each entered with its pattern's variables.
-#[cycle(walk_walk_arms_walk_branches_walk_first_walk_loop_walk_single)]
+#[cycle(walking)]
 fn walk_arms(
     image: &&[u8],
     i: Image,
@@ -222,7 +222,7 @@ fn walk_arms(
 }
 
 // The same of a loop, which keeps its entering set. A while's condition defines nothing, a for's range reads nothing.
-#[cycle(walk_walk_arms_walk_branches_walk_first_walk_loop_walk_single)]
+#[cycle(walking)]
 fn walk_loop(
     image: &&[u8],
     i: Image,

@@ -1,5 +1,4 @@
 -- `actions::assign` meets its contract. Assumes nothing.
--- nothing is left to evaluate, so nothing fails after it
 use mathlib.Core.Path.{refl}
 use Rattle.expressions.proofs.Ways.{row_from, local-is}
 use Rattle.actions.proofs.Listed.{here-row}

@@ -1,4 +1,3 @@
--- at the loop's head the slice has its length
 use borrow.Author.Rules.{rules}
 use mathlib.Core.{Path.◌≡◌, Path.ap, Path.◌∙◌}
 use native.Mathlib.{Omega.arith, Numerals.add-one}

@@ -1,4 +1,3 @@
--- at the loop's head the slice has its length
 use mathlib.Core.{Path.◌≡◌}
 use Prim.Native.Nat.{◌≤◌, ◌-◌}
 use lib.{ListN.length, Seq.paste}

@@ -1,11 +1,11 @@
 -- `values::negate` meets its contract. Assumes nothing.
--- 0 - a, of one operand
 use mathlib.Core.Path.{ap, ◌∙◌}
 use lib.IntN.{ℤ, pos, neg_ℤ, ◌-ℤ◌, +ℤ_idl}
 use Rattle.model.specs.Values.{negate, wrap}
 use Rattle.values.proofs.Held.{once, negative-in, result_fits, wrapped}
 use Rattle.values.proofs.negate.Goals as goal
 
+-- 0 - a, of one operand
 abbrev negative : ℤ → ℤ → ℤ
 negative a b = pos 0 -ℤ a
 

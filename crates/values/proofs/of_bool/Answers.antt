@@ -1,5 +1,4 @@
 -- `values::of_bool` meets its contract. Assumes nothing.
-
 use Rattle.values.proofs.of_bool.Goals as goal
 
 pub returns-then-b : goal.returns-then-b

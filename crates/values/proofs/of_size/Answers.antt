@@ -1,5 +1,4 @@
 -- `values::of_size` meets its contract. Assumes nothing.
--- the size that was found
 use mathlib.Core.Path.{◌≡◌, sym, ◌∙◌}
 use mathlib.Core.Bool.{true, false}
 use lib.Signed.{mag, non_neg}

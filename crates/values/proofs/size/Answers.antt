@@ -1,5 +1,4 @@
 -- `values::size` meets its contract. Assumes nothing.
--- what the test said, in each arm
 use mathlib.Core.Path.{◌≡◌}
 use lib.{Dec.T, IntN.nat_abs, Signed.non_neg, Signed.mag}
 use Rattle.values.proofs.Sizes.{flip, below, above}

@@ -1,5 +1,4 @@
 -- `words::put` meets its contract. Assumes nothing.
--- at the loop's head the slice has its length
 use borrow.Author.Rules.{rules}
 use mathlib.Core.{Path.◌≡◌, Path.ap, Path.◌∙◌}
 use native.Mathlib.{Nat.le_refl, Omega.arith}

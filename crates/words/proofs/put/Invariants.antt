@@ -1,5 +1,4 @@
 -- `words::put` meets its contract. Assumes nothing.
--- at the loop's head the slice has its length
 use mathlib.Core.{Path.◌≡◌}
 use Prim.Native.Nat.{◌≤◌, ◌-◌}
 use lib.{ListN.drop, Seq.paste}

@@ -1,5 +1,4 @@
 -- `words::unsigned` meets its contract. Assumes nothing.
--- the size that was found
 use mathlib.Core.Path.{◌≡◌}
 use Prim.Native.Nat.{◌^◌}
 use lib.Signed.{mag}

@@ -1,8 +1,4 @@
 -- The run of an action and of what it holds meets its contracts: units and rows fall. Assumes nothing.
--- An action's row, and two actions in turn: the needs of the cycle's proof. Assumes nothing.
--- Select and case: the needs of the cycle's proof. Assumes nothing.
--- What the functions of the cycle promise each other, by units and rows that fall. Assumes nothing.
--- While and for: the needs of the cycle's proof. Assumes nothing.
 use Prim.Native.Nat.{◌+◌, ◌%◌, ◌*◌}
 use mathlib.Core.Path.{◌≡◌}
 use Rattle.told.specs.Told.{run_of}
@@ -15,7 +11,7 @@ use Rattle.model.specs.Run.{exec_branch}
 use Rattle.actions.specs.State.{state_of}
 use Rattle.machine.specs.Running.{RunningList}
 use Rattle.machine.proofs.Loops.{Whiles, Fors}
-use Rattle.machine.proofs.+run_action_run_arms_run_body_run_both_run_branches_run_case_run_for_run_select_run_while.Given as goal
+use Rattle.machine.proofs.+running.Given as goal
 
 abbrev pub decreases-run_while : goal.decreases-run_while
 decreases-run_while l = (run_of l.run.now).left * 4 + 2

@@ -1,8 +1,4 @@
 -- The run of an action and of what it holds meets its contracts: units and rows fall. Assumes nothing.
--- An action's row, and two actions in turn: the needs of the cycle's proof. Assumes nothing.
--- Select and case: the needs of the cycle's proof. Assumes nothing.
--- What the functions of the cycle promise each other, by units and rows that fall. Assumes nothing.
--- While and for: the needs of the cycle's proof. Assumes nothing.
 use Prim.Native.Nat.{◌/◌}
 use mathlib.Core.Path.{refl, sym, ◌∙◌, ap}
 use native.Mathlib.Omega.{arith}
@@ -18,7 +14,7 @@ use Rattle.values.proofs.Held.{held-is}
 use Rattle.model.specs.Bytes.{word_at}
 use Rattle.machine.proofs.Arms.{case-arms, case-is, case-unknown, arm-finds, arm-action, arm-found, arm-none, arm-unsure}
 use Rattle.machine.proofs.Loops.{while-first, while-test, while-ends, while-unsure, while-stops, while-less, while-more, for-range, for-slot, for-first, for-is, for-ends, for-unsure, slot_of, for-stops, for-less, for-more}
-use Rattle.machine.proofs.+run_action_run_arms_run_body_run_both_run_branches_run_case_run_for_run_select_run_while.Goals as goal
+use Rattle.machine.proofs.+running.Goals as goal
 
 pub run_action-stopped-requires : goal.run_action-stopped-requires
 run_action-stopped-requires t c = omega arith

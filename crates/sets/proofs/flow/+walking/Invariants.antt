@@ -4,7 +4,7 @@ use Prim.Native.Nat.{◌+◌, ◌*◌, ◌%◌}
 use Rattle.model.specs.Rows.{branch, arm}
 use Rattle.sets.proofs.Steps.{Walking}
 use Rattle.sets.proofs.Listing.{Listing, branching, arming}
-use Rattle.sets.proofs.flow.+walk_walk_arms_walk_branches_walk_first_walk_loop_walk_single.Given as goal
+use Rattle.sets.proofs.flow.+walking.Given as goal
 
 abbrev pub decreases-walk_single : goal.decreases-walk_single
 decreases-walk_single l = 4 * l.row + 1

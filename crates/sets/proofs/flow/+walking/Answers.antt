@@ -6,8 +6,8 @@ use Rattle.model.specs.Rows.{action, branch, arm}
 use Rattle.sets.proofs.Rows.{row-of-kind}
 use Rattle.sets.proofs.Steps.{do-plain, do-fine, walking-all, first-ready, first-low, second-low, walking_on, walking-last, loop-masks, body-ready, body-low, do-loop, as-jump, as-loop, as_plain, branches-ready, branches-low, do-select, arms-ready, arms-low, case-masks, do-case}
 use Rattle.sets.proofs.Listing.{here-kind, branches-all, branch-ready, branch-low, branch_less, branches-on, branches-last, arms-all, arm-masks, arm-ready, arm_low, arm-less, arms-on, arms_last}
-use Rattle.sets.proofs.flow.+walk_walk_arms_walk_branches_walk_first_walk_loop_walk_single.Goals as goal
-use Rattle.sets.proofs.flow.+walk_walk_arms_walk_branches_walk_first_walk_loop_walk_single.Goals.{walk_single-in_default-via-then-c-lt59, walk_single-in_default-via-else-c-lt59+else-c-lt61}
+use Rattle.sets.proofs.flow.+walking.Goals as goal
+use Rattle.sets.proofs.flow.+walking.Goals.{walk_single-in_default-via-then-c-lt59, walk_single-in_default-via-else-c-lt59+else-c-lt61}
 
 pub walk-loop-w-init : goal.walk-loop-w-init
 walk-loop-w-init t c = walking-all _ c.requires
