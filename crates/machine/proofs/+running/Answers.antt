@@ -325,9 +325,6 @@ run_body-row-w-requires t c = row_of c.requires.0 refl
 pub run_body-run_action-requires : goal.run_body-run_action-requires
 run_body-run_action-requires t c = (omega (arith, c.decreases), (c.requires.0, c.requires.1))
 
-pub run_body-returns-then-w-ne48 : goal.run_body-returns-then-w-ne48
-run_body-returns-then-w-ne48 t c = c.run_action.ensures
-
 pub run_body-stopped-requires : goal.run_body-stopped-requires
 run_body-stopped-requires t c = omega arith
 
@@ -346,7 +343,7 @@ run_body-charge-requires t c = omega (arith, c.if-left-eq0.false, c.left.ensures
 pub run_body-returns : goal.run_body-returns
 run_body-returns t c = record {
   told = told-ends;
-  result = simple-way c.requires.0 _ (run_of c.args.run.now) (λ z. c.if-left-eq0.false (c.left.ensures ∙ z)) (paid c.args.run.now c.charge.new.run c.requires.1 c.charge.ensures) (null-told (runs c.requires.0) c.row-w.ensures c.charge.new.run c.args.values.now c.args.script.now.now c.if-w-ne48.false);
+  result = simple-way c.requires.0 _ (run_of c.args.run.now) (λ z. c.if-left-eq0.false (c.left.ensures ∙ z)) (paid c.args.run.now c.charge.new.run c.requires.1 c.charge.ensures) (null-told (runs c.requires.0) c.row-w.ensures c.charge.new.run c.args.values.now c.args.script.now.now (omega arith));
   run = set-length c.args.run.now _ _ _ c.charge.ensures;
   store = refl;
   values = refl;
