@@ -1,6 +1,7 @@
 // Draws the image on standard input as a graph for Graphviz, on standard output.
 #![tactic(auto)]
 
+use ended::ended;
 use graph::draw;
 use model::Image;
 use std::io;
@@ -14,5 +15,5 @@ fn main(rt: HostRuntime) -> io::Result<()> {
     let mut text = [0u8; 262144];
     rt.reader().take(ROOM).read_to_end(&mut image)?;
     let end = draw(&image, &mut text);
-    rt.write_all(&text[..end])
+    ended(rt.write_all(&text[..end]))
 }

@@ -1,6 +1,7 @@
 // Explains the image on standard input for people, on standard output.
 #![tactic(auto)]
 
+use ended::ended;
 use model::Image;
 use notation::explain;
 use std::io;
@@ -14,5 +15,5 @@ fn main(rt: HostRuntime) -> io::Result<()> {
     let mut text = [0u8; 262144];
     rt.reader().take(ROOM).read_to_end(&mut image)?;
     let end = explain(&image, &mut text);
-    rt.write_all(&text[..end])
+    ended(rt.write_all(&text[..end]))
 }

@@ -1,6 +1,7 @@
 // The lister: an image on standard input, its listing on standard output.
 #![tactic(auto)]
 
+use ended::ended;
 use listing::listing;
 use model::Image;
 use std::io;
@@ -14,5 +15,5 @@ fn main(rt: HostRuntime) -> io::Result<()> {
     let mut text = [0u8; 2048];
     rt.reader().take(ROOM).read_to_end(&mut image)?;
     let end = listing(&image, &mut text);
-    rt.write_all(&text[..end])
+    ended(rt.write_all(&text[..end]))
 }

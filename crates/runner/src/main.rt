@@ -13,6 +13,7 @@ mod load;
 mod run;
 mod usage;
 
+use ended::ended;
 use std::io;
 
 // Bytes of the longest option, and one more: a longer word is none.
@@ -23,19 +24,11 @@ fn main(rt: HostRuntime) -> io::Result<()> {
     let mut word = [0u8; OPTION];
     let n = args::arg(&rt, 1, &mut word);
     let count = args::arg_count(&rt);
-    match asked::option(&word[..n]) {
+    ended(match asked::option(&word[..n]) {
         asked::Wish::Help => usage::usage(&rt),
-        asked::Wish::Unchecked => {
-            if count < 3 {
-                return usage::usage(&err);
-            }
-            asked::automaton(&rt, &err, 2, count, true)
-        }
-        asked::Wish::Checked => {
-            if count < 2 {
-                return usage::usage(&err);
-            }
-            asked::automaton(&rt, &err, 1, count, false)
-        }
-    }
+        asked::Wish::Unchecked if count < 3 => usage::usage(&err),
+        asked::Wish::Unchecked => asked::automaton(&rt, &err, 2, count, true),
+        asked::Wish::Checked if count < 2 => usage::usage(&err),
+        asked::Wish::Checked => asked::automaton(&rt, &err, 1, count, false),
+    })
 }

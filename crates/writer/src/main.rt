@@ -6,6 +6,7 @@
 mod line;
 mod run;
 
+use ended::ended;
 use model::Image;
 use std::io;
 use std::io::Read;
@@ -16,5 +17,5 @@ const ROOM: u64 = Image::LENGTH as u64 + 1;
 fn main(rt: HostRuntime) -> io::Result<()> {
     let mut image = Vec::new(rt.alloc());
     rt.reader().take(ROOM).read_to_end(&mut image)?;
-    run::table_writer(&rt, &image)
+    ended(run::table_writer(&rt, &image))
 }
