@@ -3,6 +3,7 @@ ghost use Rattle.std.specs.Prelude.{◌≤◌, length};
 
 use crate::answer;
 use crate::calls::case;
+use memchr::memchr;
 use std::io;
 
 // The last place at which a byte stands, or the length.
@@ -52,25 +53,14 @@ fn line(rt: &impl Print, text: &[u8]) -> io::Result<()> {
     answer::text(rt, b"\n")
 }
 
-// The first place from one on at which a byte stands, or the length.
-fn find(text: &[u8], from: usize, b: u8) -> usize
-    requires { from ≤ length text.now }
-    ensures behind { from ≤ result }
-    ensures within { result ≤ length text.now }
-{
-    for i in from..text.len() {
-        if text[i] == b {
-            return i;
-        }
-    }
-    text.len()
-}
-
 // Every line; the last one may lack its newline.
 pub(crate) fn lines(rt: &impl Print, text: &[u8]) -> io::Result<()> {
     let mut at = 0;
     while at < text.len() {
-        let end = find(text, at, b'\n');
+        let end = match memchr(b'\n', &text[at..]) {
+            Some(n) => at + n,
+            None => text.len(),
+        };
         line(rt, &text[at..end])?;
         at = end + 1;
     }
