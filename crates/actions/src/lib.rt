@@ -15,7 +15,7 @@ ghost use Rattle.actions.specs.Words.{word_of, Drawn, drawing};
 
 use expressions::{eval, row, test};
 use image::size;
-use model::{Fields, Image, Outcome, Refusal, Row, Tested, Value};
+use model::{Fields, Image, Outcome, Refusal, Row, Tested};
 use values::of_size;
 use words::word;
 
@@ -55,8 +55,8 @@ fn assign_all(image: &[u8], rows: u16, r: u16, store: &mut [i32]) -> bool
     }
     let w = row(image, rows, r);
     match eval(image, rows, w.b, store) {
-        Value::Unknown => false,
-        Value::Is(z) => {
+        None => false,
+        Some(z) => {
             let done = assign_all(image, rows, w.c, store);
             if done {
                 store[w.a as usize] = z;
@@ -79,8 +79,8 @@ pub fn assign(image: &[u8], rows: u16, r: u16, store: &mut [i32]) -> bool
         return assign_all(image, rows, r, store);
     }
     match eval(image, rows, w.b, store) {
-        Value::Unknown => false,
-        Value::Is(z) => {
+        None => false,
+        Some(z) => {
             store[w.a as usize] = z;
             true
         }

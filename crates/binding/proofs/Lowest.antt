@@ -1,9 +1,10 @@
 -- The lowest row whose rule fails. Assumes nothing.
+use Rattle.std.specs.Prelude.{Ok, Err}
 use mathlib.Core.{Path.◌≡◌, Path.sym, Path.◌∙◌, Bool.Bool, Bool.false, List.List}
 use Prim.Native.Nat.{ℕ, ◌≤◌, ◌<◌}
 use native.Mathlib.Omega.{arith}
 use lib.{ListN.length, ListN.get_or, ListN.take, ListN.length-take, Seq.get_or-take}
-use Rattle.model.specs.declared.{Image.Image, Verdict.TheVariants.Accepted, Verdict.TheVariants.Refused, Refusal.TheVariants.Binding}
+use Rattle.model.specs.declared.{Image.Image, Refusal.TheVariants.Binding}
 use Rattle.model.specs.Answers.{row, lowest}
 use Rattle.model.specs.Image.{tables_of, row_count}
 use Rattle.model.specs.Binding.{parameters_of, bound}
@@ -26,12 +27,12 @@ module _ {s : List ℕ} {i : Image} {uses defs : List ℕ} (h : Ruled s i uses d
   all-rows = h.used.size ∙ sym (rows-count h.rooted.formed.located)
 
   pub refused : (r : ℕ) (b : Bool) → lowest (bound (tables_of s)) r ≡ r → r < length uses → b ≡ bound (tables_of s) r → b ≡ false
-      → Refused (Binding (row r)) ≡ binding_verdict (tables_of s)
+      → Err (Binding (row r)) ≡ binding_verdict (tables_of s)
   unfolding binding_verdict
   refused r b e k t f =
       sym (each-refuses (bound (tables_of s)) (length (tables_of s).rows) (λ n. Binding (row n)) r e (omega (arith, all-rows)) (sym t ∙ f))
 
-  pub accepted : (r : ℕ) → lowest (bound (tables_of s)) r ≡ r → r ≤ length uses → length uses ≤ r → Accepted ≡ binding_verdict (tables_of s)
+  pub accepted : (r : ℕ) → lowest (bound (tables_of s)) r ≡ r → r ≤ length uses → length uses ≤ r → Ok tt ≡ binding_verdict (tables_of s)
   unfolding binding_verdict
   accepted r e k l =
       let q : r ≡ length (tables_of s).rows = omega (arith, all-rows) in

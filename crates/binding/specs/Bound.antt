@@ -1,8 +1,8 @@
 -- Binding on rows (refusal 9): its verdict, and what its functions ask and find. Assumes nothing.
 use mathlib.Core.{Path.◌≡◌, Logic.◌⊎◌, Bool.Bool, Bool.true, Bool.◌&&◌, List.List, List.map}
 use Rattle.std.specs.Prelude.{ℕ, ◌<◌, ◌≤◌, length, get_or}
-use Rattle.model.specs.declared.{Fields.Fields, Image.Image, Verdict.Verdict, Refusal.TheVariants.Binding}
-use Rattle.model.specs.Answers.{row, each}
+use Rattle.model.specs.declared.{Fields.Fields, Image.Image, Refusal.TheVariants.Binding}
+use Rattle.model.specs.Answers.{row, each, Verdict}
 use Rattle.model.specs.Masks.{bit}
 use Rattle.model.specs.Image.{Tables, none, tables_of, fields_of, row_count}
 use Rattle.model.specs.Rows.{Kind, expression, pattern, offer, gets, of_type, item, range, action, branch, arm, unknown, shape_of, is_kind, pick_next}

@@ -11,7 +11,7 @@ ghost use Rattle.binding.specs.Bound.{binding_verdict, Masked, bits_at, bound_of
 
 use image::{fields, row_count};
 use masks::{apart, bit, inside, mask, parameters};
-use model::{Fields, Image, Refusal, Row, Verdict};
+use model::{Fields, Image, Refusal, Row};
 
 // The row after an item's: only code 46 has it in field b.
 fn next_item(w: Fields) -> u16
@@ -77,7 +77,7 @@ fn bound(image: &[u8], i: Image, r: u16, uses: &[u64], defs: &[u64], allowed: u6
 }
 
 // The lowest row whose rule fails.
-fn rows_verdict(image: &[u8], i: Image, uses: &[u64], defs: &[u64]) -> Verdict
+fn rows_verdict(image: &[u8], i: Image, uses: &[u64], defs: &[u64]) -> Result<(), Refusal>
     requires { Ruled image.now i uses.now defs.now }
     ensures { result ≡ binding_verdict (tables_of image.now) }
 {
@@ -86,15 +86,15 @@ fn rows_verdict(image: &[u8], i: Image, uses: &[u64], defs: &[u64]) -> Verdict
     let mut r: u16 = 0;
     while r < n {
         if !bound(image, i, r, uses, defs, allowed) {
-            return Verdict::Refused(Refusal::Binding(Row(r)));
+            return Err(Refusal::Binding(Row(r)));
         }
         r += 1;
     }
-    Verdict::Accepted
+    Ok(())
 }
 
 // 9: binding. What is lent on ends where the rows end, so that none is past it.
-pub fn binding_verdict(image: &[u8], i: Image, uses: &[u64], defs: &[u64]) -> Verdict
+pub fn binding_verdict(image: &[u8], i: Image, uses: &[u64], defs: &[u64]) -> Result<(), Refusal>
     requires { Masked image.now i uses.now defs.now }
     ensures { result ≡ binding_verdict (tables_of image.now) }
 {

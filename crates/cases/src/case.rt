@@ -4,7 +4,7 @@ ghost use Rattle.std.specs.Prelude.{◌≤◌, length};
 use crate::build::{Length, build, states};
 use crate::scan::sections;
 use memchr::memchr;
-use model::Verdict;
+use model::Refusal;
 use std::io;
 
 // Bytes kept for an image, and words for its sets.
@@ -38,14 +38,19 @@ fn masks(rt: &impl Print, sets: &[u64], count: usize) -> io::Result<()> {
 }
 
 // The rest of the answer's line, and how many words of the sets buffer may have changed.
-fn answer(rt: &impl Print, v: Verdict, sets: &[u64], states: usize) -> io::Result<usize> {
+fn answer(
+    rt: &impl Print,
+    v: Result<(), Refusal>,
+    sets: &[u64],
+    states: usize,
+) -> io::Result<usize> {
     match v {
-        Verdict::Accepted => {
+        Ok(()) => {
             rt.write_all(b": accepted")?;
             masks(rt, sets, states)?;
             Ok(states)
         }
-        Verdict::Refused(y) => {
+        Err(y) => {
             rt.write_all(b":")?;
             number(rt, y.number() as u64)?;
             number(rt, y.place() as u64)?;

@@ -8,7 +8,7 @@ ghost use Rattle.actions.specs.State.{label_of, result_of};
 ghost use Rattle.finishing.specs.Finishing.{Finishes};
 
 use actions::{Ran, Run, blocked_at};
-use model::{Move, Outcome, Stepped};
+use model::{Move, Outcome, Refusal};
 use words::copy;
 
 // Word k of a label: its gate (-1 where nothing was said), the number of its values, the values, then zeros.
@@ -58,18 +58,18 @@ pub fn finish(
     label: &mut [i32],
     work: &[i32],
     values: &[i32],
-) -> Stepped
+) -> Result<Move, Refusal>
     requires { Finishes ran budget store.old label.old work.now values.now }
     ensures { record { answer = result; store = store.new; label = label.new } ≡ moved_as (result_of ran work.now values.now) at budget store.old label.old }
 {
     let out = ran.out;
     match out {
-        Outcome::Ends => Stepped::NotMoved(blocked_at(at, ran.run.spoken)),
-        Outcome::Stops(y) => Stepped::NotMoved(y),
+        Outcome::Ends => Err(blocked_at(at, ran.run.spoken)),
+        Outcome::Stops(y) => Err(y),
         Outcome::Jumps(t) => {
             copy(store, work);
             put_label(label, values, ran.run);
-            Stepped::Moved(Move {
+            Ok(Move {
                 next: t,
                 words: ran.run.words as u32,
                 units: budget - ran.run.left as u32,

@@ -1,10 +1,11 @@
 -- Going through a row. Assumes nothing.
+use Rattle.std.specs.Prelude.{Err}
 use mathlib.Core.{Path.◌≡◌, Path.refl, Bool.true, List.List}
 use Prim.Native.Nat.{ℕ, zero, suc, ◌-◌, ◌<◌, ◌≤◌}
 use native.Mathlib.{Omega.arith}
 use borrow.Author.Tests.{lt-ltb, le-ltb, eq-eqb, ne_eqb}
-use Rattle.model.specs.declared.{Fields.Fields, Refusal.Refusal, Verdict.Verdict, Verdict.TheVariants.Refused}
-use Rattle.model.specs.Answers.{number, place}
+use Rattle.model.specs.declared.{Fields.Fields, Refusal.Refusal}
+use Rattle.model.specs.Answers.{number, place, Verdict}
 use Rattle.model.specs.Image.{Tables, none, trailer_of, tables_of, fields_of}
 use Rattle.text.specs.Emit.{Page, Emitted}
 use Rattle.text.proofs.Pages.{emit-none, emit-then}
@@ -48,11 +49,11 @@ pub gave-drawn : {s : List ℕ} {v : Verdict} {sets : List ℕ} → Gave s v set
 unfolding drawn
 gave-drawn g = rw (← g.checked)
 
-pub drawn-refused : (s : List ℕ) (y : Refusal) → number y < 8 → drawn_by s (Refused y) ≡ refused_text (pointing (number y) (place y) true) y
+pub drawn-refused : (s : List ℕ) (y : Refusal) → number y < 8 → drawn_by s (Err y) ≡ refused_text (pointing (number y) (place y) true) y
 unfolding drawn_by
 drawn-refused s y h = rw (drawn_by, lt-ltb (number y) 8 h)
 
 pub drawn-graph : (s : List ℕ) (y : Refusal) → 8 ≤ number y
-    → drawn_by s (Refused y) ≡ graph_text (tables_of s) (trailer_of s) (pointing (number y) (place y) true)
+    → drawn_by s (Err y) ≡ graph_text (tables_of s) (trailer_of s) (pointing (number y) (place y) true)
 unfolding drawn_by
 drawn-graph s y h = rw (drawn_by, le-ltb (number y) 8 h)

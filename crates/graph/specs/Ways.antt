@@ -1,11 +1,11 @@
 -- The graph of an image (report, section 4, NT2DOT): a box for each state with its action, an arrow for each jump, with the
 -- gates that can be spoken on the way to it. Assumes nothing.
 use mathlib.Core.{Bool.Bool, Bool.true, Bool.false, Bool.not, Bool.◌||◌, List.List, List.[], List.◌++◌}
-use Rattle.std.specs.Prelude.{ℕ, zero, suc}
+use Rattle.std.specs.Prelude.{ℕ, zero, suc, Ok, Err}
 use lib.{Dec.eqb, Dec.ltb, ListN.get_or, ListN.replicate}
-use Rattle.model.specs.declared.{Image.Image, Fields.Fields, Refusal.Refusal, Verdict.Verdict, Verdict.TheVariants.Accepted, Verdict.TheVariants.Refused}
+use Rattle.model.specs.declared.{Image.Image, Fields.Fields, Refusal.Refusal}
 use Rattle.model.specs.Limits.{limits}
-use Rattle.model.specs.Answers.{number, place}
+use Rattle.model.specs.Answers.{number, place, Verdict}
 use Rattle.model.specs.Masks.{bit, inside, join}
 use Rattle.model.specs.Image.{Tables, none, trailer_of, tables_of, fields_of, state_count}
 use Rattle.model.specs.Calls.{check}
@@ -154,8 +154,8 @@ refused_text st y =
     ++ words_text st GRAPH-END (fields_with 0 0 0) 0
 
 unfoldable pub drawn_by : List ℕ → Verdict → List ℕ
-drawn_by s Accepted = graph_text (tables_of s) (trailer_of s) (pointless true)
-drawn_by s (Refused y) =
+drawn_by s (Ok _) = graph_text (tables_of s) (trailer_of s) (pointless true)
+drawn_by s (Err y) =
     let st = pointing (number y) (place y) true in
     elim (ltb (number y) 8) [ true ↦ refused_text st y | false ↦ graph_text (tables_of s) (trailer_of s) st ]
 

@@ -13,7 +13,7 @@ ghost use Rattle.graph.specs.Walked.{Walked};
 
 use image::{state_row, trailer};
 use masks::{bit, inside};
-use model::{Fields, Image, Refusal, Verdict};
+use model::{Fields, Image, Refusal};
 use notation::lines::{
     ARROW, BOX, GRAPH, GRAPH_END, LABEL_END, REFUSED_BOX, SPOKEN_GATE, SPOKEN_TAU,
 };
@@ -322,12 +322,12 @@ fn put_refused(y: Refusal, st: Style, text: &mut [u8], at: usize) -> usize
 }
 
 // The graph, by what check gave with room for 64 sets.
-fn put_drawn(image: &[u8], v: Verdict, sets: &[u64], text: &mut [u8]) -> usize
+fn put_drawn(image: &[u8], v: Result<(), Refusal>, sets: &[u64], text: &mut [u8]) -> usize
     requires { Gave image.now v sets.now }
     ensures { Emitted (drawn image.now) (page 0 text.old) (page result text.new) }
 {
     match v {
-        Verdict::Refused(y) => {
+        Err(y) => {
             let n = y.number();
             let p = y.place();
             let st = pointing(n, p, true);
@@ -337,7 +337,7 @@ fn put_drawn(image: &[u8], v: Verdict, sets: &[u64], text: &mut [u8]) -> usize
             let i = trailer(image);
             put_graph(image, i, st, text, 0)
         }
-        Verdict::Accepted => {
+        Ok(()) => {
             let i = trailer(image);
             let st = plain_style();
             put_graph(image, i, st, text, 0)

@@ -1,10 +1,11 @@
 -- One law for each way of the code of 1 to 4. Assumes nothing.
+use Rattle.std.specs.Prelude.{Ok, Err}
 use mathlib.Core.{Path.◌≡◌, Path.refl, Path.sym, Path.ap, Path.◌∙◌, Bool.Bool, Bool.true, Bool.false, Bool.◌&&◌, List.List, List.[], List.◌∷◌}
 use Prim.Native.Nat.{ℕ, ◌+◌, ◌-◌, ◌/◌, ◌%◌, ◌≤◌, ◌<◌}
 use native.Mathlib.{Omega.arith, Numerals.add-one}
 use lib.{Dec.eqb, Dec.leb, Dec.ltb, ListN.length, ListN.get_or, ListN.drop, Seq.drop-cons, ListN.drop_of_length-le}
 use borrow.Author.Tests.{lt-ltb, le-ltb, le-leb, lt-leb, eq-eqb, ne_eqb, leb-true, eqb-true}
-use Rattle.model.specs.declared.{Image.Image, Verdict.TheVariants.Accepted, Verdict.TheVariants.Refused, Refusal.TheVariants.ImageLength, Refusal.TheVariants.MarkOrLength, Refusal.TheVariants.Starts, Refusal.TheVariants.Entries}
+use Rattle.model.specs.declared.{Image.Image, Refusal.TheVariants.ImageLength, Refusal.TheVariants.MarkOrLength, Refusal.TheVariants.Starts, Refusal.TheVariants.Entries}
 use Rattle.model.specs.Answers.{after, unless}
 use Rattle.model.specs.Image.{Entry, length_fits, marked, trailer_of, table_fits, starts_fit, others_fit, sizes_fit, entries_fit, entries_right, tables_of, size_of, entry_of}
 use Rattle.model.specs.Answers.{variable}
@@ -184,15 +185,15 @@ pub located : (s : List ℕ) (i : Image) → i ≡ trailer_of s → length_fits 
 located s i e a b c = record { trailer = e; long = a; marked = b; starts = c }
 
 module _ (s : List ℕ) where
-  pub header-1 : length_fits s ≡ false → Refused ImageLength ≡ header_verdict s
+  pub header-1 : length_fits s ≡ false → Err ImageLength ≡ header_verdict s
   unfolding header_verdict after
   header-1 a = rw a
 
-  pub header-2 : length_fits s ≡ true → marked s ≡ false → Refused MarkOrLength ≡ header_verdict s
+  pub header-2 : length_fits s ≡ true → marked s ≡ false → Err MarkOrLength ≡ header_verdict s
   unfolding header_verdict after
   header-2 a b = rw (a, b)
 
-  pub header-3 : (i : Image) → i ≡ trailer_of s → length_fits s ≡ true → marked s ≡ true → starts_fit i ≡ false → Refused Starts ≡ header_verdict s
+  pub header-3 : (i : Image) → i ≡ trailer_of s → length_fits s ≡ true → marked s ≡ true → starts_fit i ≡ false → Err Starts ≡ header_verdict s
   unfolding header_verdict after
   header-3 i e a b c = rw (a, b, ← e, c)
 
@@ -200,17 +201,17 @@ module _ (s : List ℕ) where
   unfolding header_verdict after
   right i l = rw (l.long, l.marked, ← l.trailer, l.starts)
 
-  pub header-4 : (i : Image) → Located s i → sizes_fit (tables_of s).sizes ≡ false → Refused Entries ≡ header_verdict s
+  pub header-4 : (i : Image) → Located s i → sizes_fit (tables_of s).sizes ≡ false → Err Entries ≡ header_verdict s
   unfolding entries_right
   header-4 i l a = sym (right i l ∙ rw a)
 
   pub header-5 : (i : Image) → Located s i → sizes_fit (tables_of s).sizes ≡ true
-      → entries_fit (length (tables_of s).sizes) (tables_of s).variables ≡ false → Refused Entries ≡ header_verdict s
+      → entries_fit (length (tables_of s).sizes) (tables_of s).variables ≡ false → Err Entries ≡ header_verdict s
   unfolding entries_right
   header-5 i l a b = sym (right i l ∙ rw (a, b))
 
   pub header-6 : (i : Image) → Located s i → sizes_fit (tables_of s).sizes ≡ true
-      → entries_fit (length (tables_of s).sizes) (tables_of s).variables ≡ true → Accepted ≡ header_verdict s
+      → entries_fit (length (tables_of s).sizes) (tables_of s).variables ≡ true → Ok tt ≡ header_verdict s
   unfolding entries_right
   header-6 i l a b = sym (right i l ∙ rw (a, b))
 

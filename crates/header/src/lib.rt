@@ -6,7 +6,7 @@ ghost use Rattle.model.specs.Image.{length_fits, marked, trailer_of, table_fits,
 ghost use Rattle.image.specs.Located.{Located, header_verdict};
 
 use image::{parameter, size, trailer, type_count, variable_count, variable_type};
-use model::{Image, Refusal, Verdict};
+use model::{Image, Refusal};
 
 fn length_fits(image: &[u8]) -> bool
     ensures { result ≡ length_fits image.now }
@@ -133,24 +133,24 @@ fn entries_fit(image: &[u8], i: Image) -> bool
 }
 
 // 1 to 4, the first that is met.
-pub fn header(image: &[u8]) -> Verdict
+pub fn header(image: &[u8]) -> Result<(), Refusal>
     ensures { result ≡ header_verdict image.now }
 {
     if !length_fits(image) {
-        return Verdict::Refused(Refusal::ImageLength);
+        return Err(Refusal::ImageLength);
     }
     let i = trailer(image);
     if !marked(image, i) {
-        return Verdict::Refused(Refusal::MarkOrLength);
+        return Err(Refusal::MarkOrLength);
     }
     if !starts_fit(i) {
-        return Verdict::Refused(Refusal::Starts);
+        return Err(Refusal::Starts);
     }
     if !sizes_fit(image, i) {
-        return Verdict::Refused(Refusal::Entries);
+        return Err(Refusal::Entries);
     }
     if !entries_fit(image, i) {
-        return Verdict::Refused(Refusal::Entries);
+        return Err(Refusal::Entries);
     }
-    Verdict::Accepted
+    Ok(())
 }

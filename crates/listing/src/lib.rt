@@ -1,8 +1,7 @@
 // What the lister writes: a line for each state of an accepted image, or the refusal's number and place.
 #![tactic(auto)]
 
-ghost use Rattle.std.specs.Prelude.{◌≡◌, [], ◌∷◌, ◌++◌, ◌+◌, ◌*◌, ◌≤◌, length, take, drop};
-ghost use Rattle.model.specs.declared.Verdict.TheVariants.{Refused};
+ghost use Rattle.std.specs.Prelude.{◌≡◌, [], ◌∷◌, ◌++◌, ◌+◌, ◌*◌, ◌≤◌, length, take, drop, Err};
 ghost use Rattle.model.specs.Image.{tables_of, variable_count, state_count};
 ghost use Rattle.model.specs.Exports.{lines, listed, listing};
 ghost use Rattle.image.specs.Located.{Located, StateOf};
@@ -10,7 +9,7 @@ ghost use Rattle.text.specs.Put.{Put};
 ghost use Rattle.listing.specs.Gave.{Gave};
 
 use image::{state_row, trailer};
-use model::{Image, Refusal, Verdict};
+use model::{Image, Refusal};
 use ntif::check;
 use text::{count, put_bytes, put_number};
 
@@ -44,20 +43,20 @@ fn put_lines(image: &[u8], i: Image, sets: &[u64], text: &mut [u8], at: usize) -
 // A refusal's line: its number and its place.
 fn put_refusal(text: &mut [u8], y: Refusal) -> usize
     requires { 12 ≤ length text.old }
-    ensures { Put text.old 0 (listed (Refused y) []) result text.new }
+    ensures { Put text.old 0 (listed (Err y) []) result text.new }
 {
     let second = put_number(text, 0, y.number(), b' ');
     put_number(text, second, y.place(), b'\n')
 }
 
 // The listing, by what check gave with room for 64 sets.
-fn put_listing(image: &[u8], v: Verdict, sets: &[u64], text: &mut [u8]) -> usize
+fn put_listing(image: &[u8], v: Result<(), Refusal>, sets: &[u64], text: &mut [u8]) -> usize
     requires { Gave image.now v sets.now × (2048 ≤ length text.old) }
     ensures { Put text.old 0 (listing image.now) result text.new }
 {
     match v {
-        Verdict::Refused(y) => put_refusal(text, y),
-        Verdict::Accepted => {
+        Err(y) => put_refusal(text, y),
+        Ok(()) => {
             let i = trailer(image);
             let at = put_bytes(text, 0, b"state row defined\n");
             put_lines(image, i, sets, text, at)

@@ -17,7 +17,7 @@ ghost use Rattle.machine.specs.Running.{Running, RunningList, RunningCase, Runni
 
 use actions::blocked_at;
 use expressions::{eval, row, test, value};
-use model::{Image, Refusal, Row, Tested, Value};
+use model::{Image, Refusal, Row, Tested};
 use patterns::{Found, find_arm};
 use simple::run_simple;
 use told::{ENDS, Slots, Values, charge, hear, left, spoken, stopped, words};
@@ -55,16 +55,16 @@ fn onward(r: u16, v: u16, p: u32, store: &mut [i32]) -> u32
         return p;
     }
     match value(store, v) {
-        Value::Is(z) => {
+        Some(z) => {
             store[v as usize] = plus(Image::HALF, z, 1);
             ENDS
         }
-        Value::Unknown => stopped(Refusal::Undefined(Row(r))),
+        None => stopped(Refusal::Undefined(Row(r))),
     }
 }
 
 // eval and test where the store is lent to be changed, and isn't.
-fn eval_on(image: &[u8], rows: u16, e: u16, store: &mut [i32]) -> Value
+fn eval_on(image: &[u8], rows: u16, e: u16, store: &mut [i32]) -> Option<i32>
     requires { Runs expression image.now rows e store.old }
     ensures { (result ≡ eval (tables_of image.now) (expression_at (tables_of image.now) e) store.old) × (store.new ≡ store.old) }
 {
@@ -84,14 +84,14 @@ fn at_most(store: &mut [i32], v: u16, high: i32) -> Tested
     ensures { AtMost v high store.old result × (store.new ≡ store.old) }
 {
     match value(store, v) {
-        Value::Is(z) => {
+        Some(z) => {
             if z <= high {
                 Tested::Holds
             } else {
                 Tested::Fails
             }
         }
-        Value::Unknown => Tested::Unsure,
+        None => Tested::Unsure,
     }
 }
 
@@ -232,8 +232,8 @@ fn run_case(
     ensures { Leaves result run.old run.new store.old.now store.new.now values.old values.new (exec_act (tables_of image.now.now) (case (expression_at (tables_of image.now.now) a) (arms_of (tables_of image.now.now) (action_at (tables_of image.now.now)) (list_at (tables_of image.now.now) b))) script.now.now r (state_of (run_of run.old) store.old.now values.old)) }
 {
     match eval_on(*image, rows, a, *store) {
-        Value::Is(z) => run_arms(image, rows, r, b, z, store, script, values, run),
-        Value::Unknown => stopped(Refusal::Undefined(Row(r))),
+        Some(z) => run_arms(image, rows, r, b, z, store, script, values, run),
+        None => stopped(Refusal::Undefined(Row(r))),
     }
 }
 

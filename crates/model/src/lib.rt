@@ -257,32 +257,12 @@ impl Refusal {
     }
 }
 
-// What check and start give, and each stage of the calls.
-#[derive(Clone, Copy)]
-pub enum Verdict {
-    Accepted,
-    Refused(Refusal),
-}
-
 // A step that moves: the next state, the words read, the units used.
 #[derive(Clone, Copy)]
 pub struct Move {
     pub next: State,
     pub words: u32,
     pub units: u32,
-}
-
-#[derive(Clone, Copy)]
-pub enum Stepped {
-    Moved(Move),
-    NotMoved(Refusal),
-}
-
-// The value of an expression, or that it reads an undefined variable.
-#[derive(Clone, Copy)]
-pub enum Value {
-    Is(i32),
-    Unknown,
 }
 
 // A condition: a bool expression tested.

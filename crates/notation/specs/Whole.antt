@@ -1,10 +1,10 @@
 -- What is written of an image: its tables, its rows or its states' actions, the verdict. Assumes nothing.
 use mathlib.Core.{Bool.Bool, Bool.true, Bool.false, List.List, List.[], List.◌++◌}
-use Rattle.std.specs.Prelude.{ℕ, ◌+◌, min}
+use Rattle.std.specs.Prelude.{ℕ, ◌+◌, min, Ok, Err}
 use lib.{Dec.eqb, Dec.ltb, ListN.length, ListN.get_or, ListN.replicate}
-use Rattle.model.specs.declared.{Image.Image, Fields.Fields, Refusal.Refusal, Verdict.Verdict, Verdict.TheVariants.Accepted, Verdict.TheVariants.Refused}
+use Rattle.model.specs.declared.{Image.Image, Fields.Fields, Refusal.Refusal}
 use Rattle.model.specs.Limits.{limits}
-use Rattle.model.specs.Answers.{variable, number, place}
+use Rattle.model.specs.Answers.{variable, number, place, Verdict}
 use Rattle.model.specs.Masks.{bit, inside}
 use Rattle.model.specs.Image.{Tables, none, bool, int, trailer_of, tables_of, size_of, entry_of, fields_of, type_count, variable_count, state_count, row_count}
 use Rattle.model.specs.Calls.{check}
@@ -157,9 +157,9 @@ abbrev pub pointless : Bool → Style
 pointless graph = record { place = none; state = none; graph = graph }
 
 unfoldable pub explained_by : List ℕ → Verdict → List ℕ → List ℕ
-explained_by s Accepted sets =
+explained_by s (Ok tt) sets =
     listing_text (tables_of s) (trailer_of s) (pointless false) ++ accepted_text (pointless false) (trailer_of s) sets
-explained_by s (Refused y) sets =
+explained_by s (Err y) sets =
     let st = pointing (number y) (place y) false in
     shown_text s st (number y) ++ refusal_text st y
 

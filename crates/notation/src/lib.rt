@@ -12,7 +12,7 @@ ghost use Rattle.listing.specs.Gave.{Gave};
 
 use image::{fields, row_count, trailer};
 use marks::{aim, line, notation_byte, put_lead, put_plain, row_line};
-use model::{Fields, Image, Verdict};
+use model::{Fields, Image, Refusal};
 use ntif::check;
 use whole::{pointing, put_accepted, put_listing, put_refusal, put_shown};
 
@@ -118,19 +118,19 @@ pub(crate) fn put_filled(
 }
 
 // What is written of an image, by what check gave with room for 64 sets.
-fn put_explained(image: &[u8], v: Verdict, sets: &[u64], text: &mut [u8]) -> usize
+fn put_explained(image: &[u8], v: Result<(), Refusal>, sets: &[u64], text: &mut [u8]) -> usize
     requires { Gave image.now v sets.now }
     ensures { Emitted (explained image.now) (page 0 text.old) (page result text.new) }
 {
     match v {
-        Verdict::Refused(y) => {
+        Err(y) => {
             let n = y.number();
             let p = y.place();
             let st = pointing(n, p, false);
             let a = put_shown(image, st, n, text, 0);
             put_refusal(y, st, text, a)
         }
-        Verdict::Accepted => {
+        Ok(()) => {
             let i = trailer(image);
             let st = Style {
                 place: Image::NONE,

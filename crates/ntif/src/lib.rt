@@ -1,14 +1,13 @@
 // The three calls on words, and as the C driver has them.
 #![tactic(auto)]
 
-ghost use Rattle.std.specs.Prelude.{◌≡◌, ◌++◌, ◌/◌, ◌^◌, ◌≤◌, ◌<◌, min, length, take, drop};
-ghost use Rattle.model.specs.declared.Stepped.TheVariants.{Moved};
+ghost use Rattle.std.specs.Prelude.{◌≡◌, ◌++◌, ◌/◌, ◌^◌, ◌≤◌, ◌<◌, min, length, take, drop, Ok};
 ghost use Rattle.model.specs.Answers.{state};
 ghost use Rattle.model.specs.Calls.{check, start, step};
 ghost use Rattle.model.specs.Exports.{pack_refusal, pack_verdict, pack_stepped, check_bytes, start_bytes, step_bytes};
 
 use image::{state_count, trailer};
-use model::{Image, Move, Refusal, State, Stepped, Verdict};
+use model::{Image, Move, Refusal, State};
 use stages::judge;
 use stepping::take_step;
 use words::{get_words, put_masks, put_words};
@@ -25,14 +24,14 @@ fn copy(sets: &mut [u64], masks: &[u64], count: usize)
 }
 
 // check, with masks that its caller lends: a refusal leaves the sets alone.
-fn check_on(image: &[u8], sets: &mut [u64], masks: &mut [u64]) -> Verdict
+fn check_on(image: &[u8], sets: &mut [u64], masks: &mut [u64]) -> Result<(), Refusal>
     requires { 64 ≤ length masks.old }
     ensures { record { answer = result; sets = sets.new } ≡ check image.now sets.old }
 {
     let v = judge(image, sets.len(), masks);
     match v {
-        Verdict::Refused(_) => v,
-        Verdict::Accepted => {
+        Err(_) => v,
+        Ok(()) => {
             let i = trailer(image);
             copy(sets, masks, state_count(image, i) as usize);
             v
@@ -41,7 +40,7 @@ fn check_on(image: &[u8], sets: &mut [u64], masks: &mut [u64]) -> Verdict
 }
 
 // The verdict on an image, and where it is accepted its sets.
-pub fn check(image: &[u8], sets: &mut [u64]) -> Verdict
+pub fn check(image: &[u8], sets: &mut [u64]) -> Result<(), Refusal>
     ensures { record { answer = result; sets = sets.new } ≡ check image.now sets.old }
 {
     let mut masks = [0u64; Image::STATES as usize];
@@ -56,12 +55,12 @@ fn pack_refusal(y: Refusal) -> u64
 }
 
 // 0, or a refusal.
-fn pack_verdict(v: Verdict) -> u64
+fn pack_verdict(v: Result<(), Refusal>) -> u64
     ensures { result ≡ pack_verdict v }
 {
     match v {
-        Verdict::Accepted => 0,
-        Verdict::Refused(y) => pack_refusal(y),
+        Ok(()) => 0,
+        Err(y) => pack_refusal(y),
     }
 }
 
@@ -72,8 +71,8 @@ fn check_bytes_on(image: &[u8], sets: &mut [u8], masks: &mut [u64]) -> u64
 {
     let v = judge(image, sets.len() / 8, masks);
     match v {
-        Verdict::Refused(_) => pack_verdict(v),
-        Verdict::Accepted => {
+        Err(_) => pack_verdict(v),
+        Ok(()) => {
             let i = trailer(image);
             put_masks(sets, masks, state_count(image, i) as usize);
             pack_verdict(v)
@@ -90,7 +89,7 @@ pub fn ntif_check(image: &[u8], sets: &mut [u8]) -> u64
 }
 
 // The verdict on an image, parameter values and a store, and where it is accepted the store that the automaton starts with.
-pub fn start(image: &[u8], params: &[i32], store: &mut [i32]) -> Verdict
+pub fn start(image: &[u8], params: &[i32], store: &mut [i32]) -> Result<(), Refusal>
     ensures { record { answer = result; store = store.new } ≡ start image.now params.now store.old }
 {
     starting::start(image, params, store)
@@ -120,8 +119,8 @@ fn start_bytes_on(
     get_words(given, params, n);
     let v = starting::start(image, given, slots);
     match v {
-        Verdict::Refused(_) => pack_verdict(v),
-        Verdict::Accepted => {
+        Err(_) => pack_verdict(v),
+        Ok(()) => {
             let m = slots.len();
             put_words(store, slots, m);
             pack_verdict(v)
@@ -148,7 +147,7 @@ pub fn step(
     script: &[u8],
     budget: u32,
     label: &mut [i32],
-) -> Stepped
+) -> Result<Move, Refusal>
     ensures { record { answer = result; store = store.new; label = label.new } ≡ step image.now q store.old script.now budget label.old }
 {
     take_step(image, q, store, script, budget, label)
@@ -167,7 +166,7 @@ fn state_of(q: u32) -> State
 // The next state from bit 8, the units from bit 16, the words from bit 40 on.
 fn pack_move(m: Move) -> u64
     requires { m.words < 2 ^ 23 }
-    ensures { result ≡ pack_stepped (Moved m) }
+    ensures { result ≡ pack_stepped (Ok m) }
 {
     let next = m.next.0 as u64 * 256;
     let units = m.units as u64 * 65536;
@@ -193,8 +192,8 @@ fn step_bytes_on(
     get_words(slots, store, n);
     let done = take_step(image, state_of(q), slots, script, budget, ten);
     match done {
-        Stepped::NotMoved(y) => pack_refusal(y),
-        Stepped::Moved(m) => {
+        Err(y) => pack_refusal(y),
+        Ok(m) => {
             put_words(store, slots, n);
             put_words(label, ten, ten.len());
             pack_move(m)

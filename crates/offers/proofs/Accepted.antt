@@ -1,9 +1,10 @@
 -- The ways of one offer: an emission by its value, a receipt by its word and its match. Assumes nothing.
+use Rattle.std.specs.Prelude.{Option, Some, None}
 use mathlib.Core.{Path.◌≡◌, Path.refl, Path.sym, Path.ap, Path.◌∙◌, Path.subst, Bool.true, List.List}
 use Prim.Native.Nat.{ℕ, ◌+◌, ◌<◌}
 use native.Mathlib.Omega.{arith}
 use lib.{IntN.ℤ, ListN.length}
-use Rattle.model.specs.declared.{Image.Image, Fields.Fields, Value.Value, Value.TheVariants.Is, Value.TheVariants.Unknown, Refusal.TheVariants.Blocked, Refusal.TheVariants.Undefined, Refusal.TheVariants.ScriptEnded, Refusal.TheVariants.WordOutOfRange}
+use Rattle.model.specs.declared.{Image.Image, Fields.Fields, Refusal.TheVariants.Blocked, Refusal.TheVariants.Undefined, Refusal.TheVariants.ScriptEnded, Refusal.TheVariants.WordOutOfRange}
 use Rattle.model.specs.Answers.{row}
 use Rattle.model.specs.Values.{of_size}
 use Rattle.model.specs.Image.{Tables, tables_of, size_of}
@@ -33,12 +34,12 @@ use Rattle.offers.specs.Accepting.{Given, given, offer_by, emits, match_gives, w
 use Rattle.offers.specs.Asks.{Receives, Accepts}
 
 -- an emission
-module _ {s : List ℕ} {rows e : ℕ} {m : List ℤ} (h : Runs expression s rows e m) {v : Value} (q : v ≡ eval (tables_of s) (expression_at (tables_of s) e) m) (r n : ℕ) where
-  pub emits-value : {z : ℤ} → v ≡ Is z → Gave (held z) n ≡ emits (eval (tables_of s) (expression_at (tables_of s) e) m) r n
-  emits-value f = ap (λ (a : ℤ). Gave a n) (local-is h q f) ∙ sym (ap (λ (y : Value). emits y r n) (sym q ∙ f))
+module _ {s : List ℕ} {rows e : ℕ} {m : List ℤ} (h : Runs expression s rows e m) {v : Option ℤ} (q : v ≡ eval (tables_of s) (expression_at (tables_of s) e) m) (r n : ℕ) where
+  pub emits-value : {z : ℤ} → v ≡ Some z → Gave (held z) n ≡ emits (eval (tables_of s) (expression_at (tables_of s) e) m) r n
+  emits-value f = ap (λ (a : ℤ). Gave a n) (local-is h q f) ∙ sym (ap (λ (y : Option ℤ). emits y r n) (sym q ∙ f))
 
-  pub emits-unknown : v ≡ Unknown → Refused (Undefined (row r)) n ≡ emits (eval (tables_of s) (expression_at (tables_of s) e) m) r n
-  emits-unknown f = sym (ap (λ (y : Value). emits y r n) (sym q ∙ f))
+  pub emits-unknown : v ≡ None → Refused (Undefined (row r)) n ≡ emits (eval (tables_of s) (expression_at (tables_of s) e) m) r n
+  emits-unknown f = sym (ap (λ (y : Option ℤ). emits y r n) (sym q ∙ f))
 
 -- a pattern's type is one of the image's
 type-below : (x : Tables) → Whole x → (p : Pat) → GoodPat x p → type_of_pat x p < length x.sizes

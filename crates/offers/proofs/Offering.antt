@@ -1,9 +1,10 @@
 -- The ways of a list of offers, one after another, and of a communication. Assumes nothing.
+use Rattle.std.specs.Prelude.{Option, Some, None}
 use mathlib.Core.{Path.◌≡◌, Path.refl, Path.sym, Path.ap, Path.◌∙◌, Path.subst, Logic.inl, Logic.inr, Logic.⊎_elim, Bool.Bool, Bool.true, Bool.false, Bool.cond, List.List, List.[], List.◌∷◌, List.◌++◌, List.map}
 use Prim.Native.Nat.{ℕ, ◌+◌, ◌%◌, ◌≤◌, ◌<◌}
 use native.Mathlib.{Numerals.add-one, Omega.arith}
 use lib.{IntN.ℤ, ListN.length, ListN.take, ListN.set, ListN.length-set, Seq.take-suc-set, Signed.mag}
-use Rattle.model.specs.declared.{Image.Image, Fields.Fields, Gate.Gate, Value.Value, Value.TheVariants.Is, Value.TheVariants.Unknown, Refusal.Refusal, Refusal.TheVariants.Undefined, Refusal.TheVariants.SecondCommunication, Outcome.TheVariants.Ends, Outcome.TheVariants.Stops}
+use Rattle.model.specs.declared.{Image.Image, Fields.Fields, Gate.Gate, Refusal.Refusal, Refusal.TheVariants.Undefined, Refusal.TheVariants.SecondCommunication, Outcome.TheVariants.Ends, Outcome.TheVariants.Stops}
 use Rattle.model.specs.Answers.{row, gate}
 use Rattle.model.specs.Values.{half16, of_size}
 use Rattle.model.specs.Image.{Tables, none, tables_of, fields_of, size_of}
@@ -51,10 +52,10 @@ module _ (x : Tables) (g : Gate) (os : List Offer) (vs : List ℤ) (script : Lis
   received : Pat → ℤ → St → Res
   received p z u = elim (match x p z u.store) [ matched k ↦ rest z (stored k u) | failed ↦ blocked r u | unsure ↦ gives (Stops (Undefined (row r))) u ]
 
-  emitted-by : (y : Value) → valued y r (quiet run m n) (λ z. rest z (quiet run m n)) ≡ after (given (emits y r n) m) run rest
+  emitted-by : (y : Option ℤ) → valued y r (quiet run m n) (λ z. rest z (quiet run m n)) ≡ after (given (emits y r n) m) run rest
   unfolding valued
-  emitted-by (Is z) = refl
-  emitted-by Unknown = refl
+  emitted-by (Some z) = refl
+  emitted-by None = refl
 
   received-by : (p : Pat) (y : Word) → read_as y r (quiet run m n) (received p) ≡ after (word_gives x p r m n y) run rest
   unfolding received blocked_at
@@ -103,9 +104,9 @@ module _ (x : Tables) (w : Whole x) (m : List ℤ) (t : TypedStore x m) (r : ℕ
   unfolding accepts receives
   accepts-small (emit e) g script n k a q = go (eval x e m) refl q
     where
-      go : (y : Value) → eval x e m ≡ y → emits y r n ≡ Gave a k → mag a < 32768
-      go (Is z) f h = let b : z ≡ a = cc in value-small w _ a (eval-typed x w e m a g t (f ∙ ap Is b))
-      go Unknown f h = let b : ◌≡◌ {A = ℕ} 0 1 = cc in absurd (omega arith)
+      go : (y : Option ℤ) → eval x e m ≡ y → emits y r n ≡ Gave a k → mag a < 32768
+      go (Some z) f h = let b : z ≡ a = cc in value-small w _ a (eval-typed x w e m a g t (f ∙ ap Some b))
+      go None f h = let b : ◌≡◌ {A = ℕ} 0 1 = cc in absurd (omega arith)
   accepts-small (receive p) g script n k a q = go (word_of (size_of x (type_of_pat x p)) script n) refl q
     where
       go : (y : Word) → word_of (size_of x (type_of_pat x p)) script n ≡ y → (word_gives x p r m n y).got ≡ Gave a k → mag a < 32768

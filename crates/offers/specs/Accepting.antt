@@ -1,7 +1,7 @@
 -- What one offer gives while nothing has been said: accept(v, ρ, O) of the report, section 3.4 (01, "The step"). Assumes nothing.
 use mathlib.Core.{List.List}
-use Rattle.std.specs.Prelude.{ℕ, ◌+◌, ℤ}
-use Rattle.model.specs.declared.{Fields.Fields, Value.Value, Value.TheVariants.Is, Value.TheVariants.Unknown, Refusal.TheVariants.Blocked, Refusal.TheVariants.Undefined, Refusal.TheVariants.ScriptEnded, Refusal.TheVariants.WordOutOfRange}
+use Rattle.std.specs.Prelude.{ℕ, ◌+◌, ℤ, Option, Some, None}
+use Rattle.model.specs.declared.{Fields.Fields, Refusal.TheVariants.Blocked, Refusal.TheVariants.Undefined, Refusal.TheVariants.ScriptEnded, Refusal.TheVariants.WordOutOfRange}
 use Rattle.model.specs.Answers.{row}
 use Rattle.model.specs.Image.{Tables, size_of}
 use Rattle.model.specs.Rows.{shape_of}
@@ -26,9 +26,9 @@ abbrev pub offer_by : Tables → Fields → Offer
 offer_by x w = offer_of x w (shape_of w.code).means
 
 -- an emission of a value, in the communication of row r after n words
-abbrev pub emits : Value → ℕ → ℕ → Offered
-emits (Is z) r n = Gave z n
-emits Unknown r n = Refused (Undefined (row r)) n
+abbrev pub emits : Option ℤ → ℕ → ℕ → Offered
+emits (Some z) r n = Gave z n
+emits None r n = Refused (Undefined (row r)) n
 
 -- a receipt of the word z, by its match; "A receipt that doesn't match is 21"
 abbrev pub match_gives : ℕ → List ℤ → ℕ → ℤ → Match → Given

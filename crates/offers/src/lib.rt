@@ -15,7 +15,7 @@ ghost use Rattle.offers.specs.Asks.{Receives, Accepts, AcceptsAll, Communicates}
 use actions::{Ran, Run, Word, at_word, read_word};
 use expressions::{eval, row};
 use image::size;
-use model::{Fields, Image, Outcome, Refusal, Row, Value};
+use model::{Fields, Image, Outcome, Refusal, Row};
 use patterns::{Match, matches};
 use typing::type_of_pattern;
 
@@ -35,8 +35,8 @@ fn emit(image: &[u8], rows: u16, place: u16, e: u16, store: &[i32], words: usize
     ensures { result ≡ emits (eval (tables_of image.now) (expression_at (tables_of image.now) e) store.now) place words }
 {
     match eval(image, rows, e, store) {
-        Value::Is(z) => Offered::Gave(z, words),
-        Value::Unknown => Offered::Refused(Refusal::Undefined(Row(place)), words),
+        Some(z) => Offered::Gave(z, words),
+        None => Offered::Refused(Refusal::Undefined(Row(place)), words),
     }
 }
 

@@ -1,11 +1,12 @@
 -- What a match and a search give their callers. Assumes nothing.
+use Rattle.std.specs.Prelude.{Option, Some}
 use mathlib.Core.{Path.◌≡◌, Path.refl, Path.sym, Path.ap, Path.◌∙◌, Path.subst, Logic.inl, Logic.inr, Logic.⊎_elim}
 use mathlib.Core.{Bool.true, List.List, List.[], List.◌∷◌}
 use Prim.Native.Nat.{ℕ, suc, ◌≤◌, ◌<◌}
 use native.Mathlib.Omega.{arith}
 use lib.{Dec.eqb, IntN.ℤ}
 use borrow.Author.Tests.{eqb-true, eq-eqb}
-use Rattle.model.specs.declared.{Fields.Fields, Value.Value, Value.TheVariants.Is}
+use Rattle.model.specs.declared.{Fields.Fields}
 use Rattle.model.specs.Image.{Tables, tables_of, fields_of}
 use Rattle.model.specs.Rows.{expression, action, arm as arm_kind, is_case, an_action, another, codes, lookup, shape_of, means_at, is_kind}
 use Rattle.model.specs.Trees.{Pat, Arms, no_arm, arm}
@@ -120,7 +121,7 @@ module _ {s : List ℕ} {rows r : ℕ} {m : List ℤ} (h : Runs action s rows r 
   case-subject =
       record { ready = h.ready; start = h.start; kind = rw e (row_is (tables_of s) (forms h.ready) r (an_action is_case) is-case).a.kind }
 
-  module _ {v : Value} {z : ℤ} (f : v ≡ eval (tables_of s) (expression_at (tables_of s) w.a) m) (g : v ≡ Is z) where
+  module _ {v : Option ℤ} {z : ℤ} (f : v ≡ eval (tables_of s) (expression_at (tables_of s) w.a) m) (g : v ≡ Some z) where
     pub case-finds : Finds s rows w.b z m
     case-finds =
         let x = tables_of s in

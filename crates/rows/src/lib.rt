@@ -12,7 +12,7 @@ ghost use Rattle.rows.specs.Judged.{Reading, rooted};
 use fits::{malformed, names};
 use image::{row_count, state_count, state_row};
 use lines::{ACTION, CODES, EXPRESSION, LINES};
-use model::{Image, Refusal, Row, State, Verdict};
+use model::{Image, Refusal, Row, State};
 use once::not_once;
 
 mod fits;
@@ -45,32 +45,32 @@ fn not_rooted(image: &[u8], i: Image, lines: &[u32; CODES], n: u16) -> u16
 }
 
 // 5, then 6, then 7, each at the lowest place, by the table of codes.
-fn verdict_by(image: &[u8], i: Image, lines: &[u32; CODES]) -> Verdict
+fn verdict_by(image: &[u8], i: Image, lines: &[u32; CODES]) -> Result<(), Refusal>
     requires { Reading image.now lines.now i }
     ensures { result ≡ rows_verdict (tables_of image.now) }
 {
     let rows = row_count(image, i);
     let r = malformed(image, i, lines, rows);
     if r < rows {
-        return Verdict::Refused(Refusal::Malformed(Row(r)));
+        return Err(Refusal::Malformed(Row(r)));
     }
     let states = state_count(image, i);
     let q = not_rooted(image, i, lines, states);
     if q < states {
-        return Verdict::Refused(Refusal::NoAction(State(q)));
+        return Err(Refusal::NoAction(State(q)));
     }
     if !is_root(image, i, lines, EXPRESSION, i.condition) {
-        return Verdict::Refused(Refusal::NoCondition(states));
+        return Err(Refusal::NoCondition(states));
     }
     let m = not_once(image, i, lines, rows);
     if m < rows {
-        return Verdict::Refused(Refusal::NotNamedOnce(Row(m)));
+        return Err(Refusal::NotNamedOnce(Row(m)));
     }
-    Verdict::Accepted
+    Ok(())
 }
 
 // What 5 to 7 give of an image that is past 1 to 3.
-pub fn rows_verdict(image: &[u8], i: Image) -> Verdict
+pub fn rows_verdict(image: &[u8], i: Image) -> Result<(), Refusal>
     requires { Located image.now i }
     ensures { result ≡ rows_verdict (tables_of image.now) }
 {

@@ -3,7 +3,7 @@ ghost use Rattle.std.specs.Prelude.{◌≡◌, ◌+◌, ◌*◌, ◌≤◌, min}
 
 use crate::line;
 use image::trailer;
-use model::{Image, State, Stepped, Verdict};
+use model::{Image, Move, Refusal, State};
 use ntif::{check, start, step};
 use std::io;
 
@@ -66,7 +66,7 @@ fn one(
     line::at(rt, q)?;
     let r = step(image, q, store, &script[at..], Image::BUDGET, label);
     match r {
-        Stepped::Moved(m) => {
+        Ok(m) => {
             let next = m.next;
             let read = onward(at, m.words, script.len());
             line::moved(rt, m, label)?;
@@ -76,7 +76,7 @@ fn one(
                 ended: false,
             })
         }
-        Stepped::NotMoved(y) => {
+        Err(y) => {
             line::refused(rt, y)?;
             Ok(Place {
                 state: q,
@@ -126,11 +126,11 @@ fn begin(
     let mut label = [0i32; Image::LABEL as usize];
     let v = start(image, params, store);
     match v {
-        Verdict::Refused(y) => {
+        Err(y) => {
             line::text(rt, b"start: ")?;
             line::refused(rt, y)
         }
-        Verdict::Accepted => {
+        Ok(()) => {
             steps(rt, image, store, script, &mut label)?;
             line::store(rt, store)
         }
@@ -143,11 +143,11 @@ fn checked(rt: &impl Print, image: &[u8], unchecked: bool) -> io::Result<bool> {
     let v = check(image, &mut sets);
     line::text(rt, b"check: ")?;
     match v {
-        Verdict::Accepted => {
+        Ok(()) => {
             line::text(rt, b"accepted\n")?;
             Ok(true)
         }
-        Verdict::Refused(y) => {
+        Err(y) => {
             line::refused(rt, y)?;
             Ok(unchecked)
         }

@@ -1,11 +1,12 @@
 -- The largest sets: where they begin, that they are found when nothing is due; and 11 judged there. Assumes nothing.
+use Rattle.std.specs.Prelude.{Ok, Err}
 use mathlib.Core.{Path.◌≡◌, Path.refl, Path.sym, Path.ap, Path.◌∙◌, Bool.Bool, Bool.true, Bool.false, Bool.not, Bool.cond, Bool.◌||◌, Bool.not-not, List.List, List.◌++◌}
 use Prim.Native.Nat.{ℕ, ◌+◌, ◌*◌, ◌%◌, ◌^◌, ◌≤◌, ◌<◌}
 use native.Mathlib.{Omega.arith, Decide.ℕ_discrete}
 use lib.{Bits.bit_or, Dec.eqb, ListN.length, ListN.get_or, ListN.drop, ListN.set, ListN.length-set, Seq.get_or-set_same, Seq.get_or-set_other, Seq.ext_get_or}
 use borrow.Author.Tests.{ne_eqb, eqb-true, eqb-false}
-use Rattle.model.specs.declared.{Image.Image, Verdict.Verdict, Verdict.TheVariants.Accepted, Verdict.TheVariants.Refused, Refusal.TheVariants.Initialisation}
-use Rattle.model.specs.Answers.{state}
+use Rattle.model.specs.declared.{Image.Image, Refusal.TheVariants.Initialisation}
+use Rattle.model.specs.Answers.{state, Verdict}
 use Rattle.model.specs.Masks.{digit, Has, has, full}
 use Rattle.model.specs.Image.{Tables, none, tables_of, state_count}
 use Rattle.model.specs.Binding.{parameters_of}
@@ -168,13 +169,13 @@ module _ {x : Tables} {wrong : ℕ} {l : List ℕ} (d : Settled x wrong l) where
   errs-not : (t : ℕ) → digit wrong t ≡ 0 → initialised x (reached_of x) (sets_of x) t ≡ true
   errs-not t e = d.errs t ∙ ap not (ne_eqb (digit wrong t) 1 (λ h. omega arith))
 
-  pub judged-none : wrong ≡ 0 → Judged x Accepted l
+  pub judged-none : wrong ≡ 0 → Judged x (Ok tt) l
   judged-none z = record {
     verdict = sym (each-accepts _ (length x.states) _ (λ t b. errs-not t (ap (λ n. digit n t) z ∙ digit-zero t)));
     largest = d.largest;
   }
 
-  pub judged-at : (k : ℕ) → Lowest wrong k → Judged x (Refused (Initialisation (state k))) l
+  pub judged-at : (k : ℕ) → Lowest wrong k → Judged x (Err (Initialisation (state k))) l
   judged-at k m = record {
     verdict = sym (each-refuses _ (length x.states) _ k (lowest-full _ k (λ t b. errs-not t (m.below t b))) (d.inside k m.here) (d.errs k ∙ ap not (digit-has wrong k m.here)));
     largest = d.largest;

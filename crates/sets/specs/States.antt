@@ -1,8 +1,8 @@
 -- The states: those reached, their sets, the verdict on them. Assumes nothing.
 use mathlib.Core.{Path.◌≡◌, Bool.Bool, Bool.not, List.List, List.◌++◌}
 use Rattle.std.specs.Prelude.{ℕ, ◌≤◌, ◌<◌, length, get_or, drop}
-use Rattle.model.specs.declared.{Image.Image, Verdict.Verdict, Refusal.TheVariants.Initialisation}
-use Rattle.model.specs.Answers.{state, each}
+use Rattle.model.specs.declared.{Image.Image, Refusal.TheVariants.Initialisation}
+use Rattle.model.specs.Answers.{state, each, Verdict}
 use Rattle.model.specs.Image.{Tables, tables_of, row_count}
 use Rattle.model.specs.Masks.{digit, Has, has}
 use Rattle.model.specs.Binding.{parameters_of}

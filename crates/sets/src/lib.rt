@@ -12,7 +12,7 @@ ghost use Rattle.sets.specs.States.{Lowest, Marked, Beginning, Staged, Settled, 
 use flow::walk;
 use image::{state_count, state_row, variable_count};
 use masks::parameters;
-use model::{Image, Refusal, State, Verdict};
+use model::{Image, Refusal, State};
 
 // The lowest in the mask.
 fn lowest(m: u64) -> u16
@@ -101,7 +101,7 @@ fn initialisation(
     defs: &[u64],
     leads: &[u64],
     sets: &mut [u64],
-) -> Verdict
+) -> Result<(), Refusal>
     requires { EachState image.now i uses.now defs.now leads.now sets.old }
     ensures { Judged (tables_of image.now) result sets.new }
 {
@@ -109,9 +109,9 @@ fn initialisation(
     begin(image, i, top, sets);
     let wrong = settle(image, i, uses, defs, leads, top, sets);
     if wrong == 0 {
-        return Verdict::Accepted;
+        return Ok(());
     }
-    Verdict::Refused(Refusal::Initialisation(State(lowest(wrong))))
+    Err(Refusal::Initialisation(State(lowest(wrong))))
 }
 
 // The largest sets that fit, in the first entries lent, and 11 judged with them.
@@ -122,7 +122,7 @@ pub fn sets_verdict(
     defs: &[u64],
     leads: &[u64],
     sets: &mut [u64],
-) -> Verdict
+) -> Result<(), Refusal>
     requires { Room image.now i uses.now defs.now leads.now sets.old }
     ensures { Found (tables_of image.now) result sets.old sets.new }
 {

@@ -1,10 +1,11 @@
 -- The states, lowest first. Assumes nothing.
+use Rattle.std.specs.Prelude.{Ok, Err}
 use mathlib.Core.{Path.◌≡◌, Path.sym, Path.ap, Path.◌∙◌, Bool.Bool, Bool.true, Bool.false, List.List}
 use Prim.Native.Nat.{ℕ, ◌+◌, ◌≤◌, ◌<◌}
 use native.Mathlib.Omega.{arith}
 use lib.{Dec.ltb, ListN.length, ListN.get_or}
 use borrow.Author.Tests.{ltb-true}
-use Rattle.model.specs.declared.{Image.Image, Verdict.TheVariants.Accepted, Verdict.TheVariants.Refused, Refusal.TheVariants.Speech}
+use Rattle.model.specs.declared.{Image.Image, Refusal.TheVariants.Speech}
 use Rattle.model.specs.Answers.{state, lowest}
 use Rattle.model.specs.Image.{Tables, none, tables_of, state_count}
 use Rattle.model.specs.Rows.{action, is_kind, is_root}
@@ -64,11 +65,11 @@ module _ {s : List ℕ} {i : Image} {ways : List ℕ} (h : Judged s i ways) wher
     pub passed : passes (tables_of s) q ≡ true → Looking s n (q + 1)
     passed t = record { count = p.count; upto = omega arith; low = lowest-pass (passes x) q p.low t }
 
-    pub refused : passes (tables_of s) q ≡ false → Refused (Speech (state q)) ≡ speech_verdict (tables_of s)
+    pub refused : passes (tables_of s) q ≡ false → Err (Speech (state q)) ≡ speech_verdict (tables_of s)
     unfolding speech_verdict
     refused t = sym (each-refuses (passes x) (length x.states) (λ k. Speech (state k)) q p.low (omega (arith, p.count)) t)
 
-  pub accepted : {n q : ℕ} → Looking s n q → n ≤ q → Accepted ≡ speech_verdict (tables_of s)
+  pub accepted : {n q : ℕ} → Looking s n q → n ≤ q → Ok tt ≡ speech_verdict (tables_of s)
   unfolding speech_verdict
   accepted {n} {q} p l =
       let e : q ≡ length x.states = omega (arith, p.count, p.upto) in

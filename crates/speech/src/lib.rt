@@ -13,7 +13,7 @@ ghost use Rattle.speech.specs.Verdict.{speech_verdict, Judged, ends_right};
 
 use arms::{always, exhaustive};
 use image::{fields, row_count, state_count, state_row};
-use model::{Image, Refusal, State, Verdict};
+use model::{Image, Refusal, State};
 use ways::Modes;
 
 // The ways of a row from those of lower rows: an action's; for a branch or an arm, those of its list from there on, so that
@@ -67,7 +67,7 @@ fn ends_right(ways: &[u8], r: u16) -> bool
 }
 
 // The lowest state whose action is wrong or can end spoken.
-fn judged(image: &[u8], i: Image, ways: &[u8]) -> Verdict
+fn judged(image: &[u8], i: Image, ways: &[u8]) -> Result<(), Refusal>
     requires { Judged image.now i ways.now }
     ensures { result ≡ speech_verdict (tables_of image.now) }
 {
@@ -76,15 +76,15 @@ fn judged(image: &[u8], i: Image, ways: &[u8]) -> Verdict
     while s < n {
         let r = state_row(image, i, s);
         if !ends_right(ways, r) {
-            return Verdict::Refused(Refusal::Speech(State(s)));
+            return Err(Refusal::Speech(State(s)));
         }
         s += 1;
     }
-    Verdict::Accepted
+    Ok(())
 }
 
 // 12: a state's action does something wrong once it has spoken, or can end spoken. `ways` is lent, a byte for each row.
-pub fn speech_verdict(image: &[u8], i: Image, ways: &mut [u8]) -> Verdict
+pub fn speech_verdict(image: &[u8], i: Image, ways: &mut [u8]) -> Result<(), Refusal>
     requires { Lent image.now i ways.old }
     ensures { result ≡ speech_verdict (tables_of image.now) }
 {

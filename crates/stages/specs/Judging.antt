@@ -1,9 +1,9 @@
 -- check's stages, what they are lent and what they leave. Assumes nothing.
 use mathlib.Core.{Path.◌≡◌, List.List, List.◌++◌}
-use Rattle.std.specs.Prelude.{ℕ, ◌≤◌}
+use Rattle.std.specs.Prelude.{ℕ, ◌≤◌, Ok, Err}
 use lib.{Dec.leb, ListN.length, ListN.drop}
-use Rattle.model.specs.declared.{Image.Image, Verdict.Verdict, Verdict.TheVariants.Accepted, Verdict.TheVariants.Refused, Refusal.TheVariants.SetsShort, Refusal.TheVariants.Initialisation}
-use Rattle.model.specs.Answers.{state, after, unless, each}
+use Rattle.model.specs.declared.{Image.Image, Refusal.TheVariants.SetsShort, Refusal.TheVariants.Initialisation}
+use Rattle.model.specs.Answers.{state, after, unless, each, Verdict}
 use Rattle.model.specs.Image.{Tables, trailer_of, tables_of, row_count}
 use Rattle.model.specs.Largest.{reached_of, sets_of, initialised}
 use Rattle.model.specs.Calls.{rows_verdict, rules_verdict, image_verdict, flow_verdict, check_verdict}
@@ -33,8 +33,8 @@ room_stage x room = unless (leb (length x.states) room) SetsShort
 
 -- the masks that stages leave: the sets, where none before them refuses
 unfoldable pub leaves : Verdict → Tables → List ℕ → List ℕ
-leaves Accepted x was = sets_of x ++ drop (length x.states) was
-leaves (Refused y) x was = was
+leaves (Ok _) x was = sets_of x ++ drop (length x.states) was
+leaves (Err y) x was = was
 
 -- a verdict, and the masks that it leaves
 pub record Gives (v stop : Verdict) (x : Tables) (r : Verdict) (was masks : List ℕ) : Type 0 where
@@ -93,4 +93,4 @@ Checks s room = Gives (check_verdict s room) (after (image_verdict s) (room_stag
 pub record Cleared (s : List ℕ) (i : Image) : Type 0 where
   pub bytes : AreBytes s
   pub trailer : i ≡ trailer_of s
-  pub passed : image_verdict s ≡ Accepted
+  pub passed : image_verdict s ≡ Ok tt

@@ -11,20 +11,20 @@ use binding::binding_verdict;
 use header::header;
 use image::{row_count, state_count, trailer};
 use masks::fill;
-use model::{Image, Refusal, Verdict};
+use model::{Image, Refusal};
 use rows::rows_verdict;
 use sets::sets_verdict;
 use speech::speech_verdict;
 use typing::typing_verdict;
 
 // 1 to 7: trailer, tables, rows.
-fn tables(image: &[u8]) -> Verdict
+fn tables(image: &[u8]) -> Result<(), Refusal>
     ensures { result ≡ tables_verdict image.now }
 {
     let v = header(image);
     match v {
-        Verdict::Refused(_) => v,
-        Verdict::Accepted => {
+        Err(_) => v,
+        Ok(()) => {
             let i = trailer(image);
             rows_verdict(image, i)
         }
@@ -32,15 +32,21 @@ fn tables(image: &[u8]) -> Verdict
 }
 
 // 8 and 9, with the masks of rows that the later stages read.
-fn rules(image: &[u8], i: Image, uses: &mut [u64], defs: &mut [u64], leads: &mut [u64]) -> Verdict
+fn rules(
+    image: &[u8],
+    i: Image,
+    uses: &mut [u64],
+    defs: &mut [u64],
+    leads: &mut [u64],
+) -> Result<(), Refusal>
     requires { Lent image.now i uses.old defs.old leads.old }
     ensures { Ruled (tables_of image.now) (row_count i) result uses.new defs.new leads.new }
 {
     fill(image, i, uses, defs, leads);
     let v = typing_verdict(image, i);
     match v {
-        Verdict::Refused(_) => v,
-        Verdict::Accepted => binding_verdict(image, i, uses, defs),
+        Err(_) => v,
+        Ok(()) => binding_verdict(image, i, uses, defs),
     }
 }
 
@@ -53,12 +59,12 @@ fn found(
     defs: &[u64],
     leads: &[u64],
     masks: &mut [u64],
-) -> Verdict
+) -> Result<(), Refusal>
     requires { Masked image.now i uses.now defs.now leads.now masks.old }
     ensures { Found (tables_of image.now) room result masks.old masks.new }
 {
     if room < state_count(image, i) as usize {
-        return Verdict::Refused(Refusal::SetsShort);
+        return Err(Refusal::SetsShort);
     }
     sets_verdict(image, i, uses, defs, leads, masks)
 }
@@ -73,14 +79,14 @@ fn flow(
     leads: &[u64],
     masks: &mut [u64],
     ways: &mut [u8],
-) -> Verdict
+) -> Result<(), Refusal>
     requires { Flowing image.now i uses.now defs.now leads.now masks.old ways.old }
     ensures { Flowed (tables_of image.now) room result masks.old masks.new }
 {
     let v = found(image, i, room, uses, defs, leads, masks);
     match v {
-        Verdict::Refused(_) => v,
-        Verdict::Accepted => speech_verdict(image, i, ways),
+        Err(_) => v,
+        Ok(()) => speech_verdict(image, i, ways),
     }
 }
 
@@ -94,19 +100,19 @@ fn trees(
     leads: &mut [u64],
     masks: &mut [u64],
     ways: &mut [u8],
-) -> Verdict
+) -> Result<(), Refusal>
     requires { Treeing image.now i uses.old defs.old leads.old masks.old ways.old }
     ensures { Judged (tables_of image.now) room result masks.old masks.new }
 {
     let v = rules(image, i, uses, defs, leads);
     match v {
-        Verdict::Refused(_) => v,
-        Verdict::Accepted => flow(image, i, room, uses, defs, leads, masks, ways),
+        Err(_) => v,
+        Ok(()) => flow(image, i, room, uses, defs, leads, masks, ways),
     }
 }
 
 // The same on scratch for 128 rows, for 512 and for any image: to clear it costs time, and most images are small.
-fn small(image: &[u8], i: Image, room: usize, masks: &mut [u64]) -> Verdict
+fn small(image: &[u8], i: Image, room: usize, masks: &mut [u64]) -> Result<(), Refusal>
     requires { Sized image.now i 128 masks.old }
     ensures { Judged (tables_of image.now) room result masks.old masks.new }
 {
@@ -119,7 +125,7 @@ fn small(image: &[u8], i: Image, room: usize, masks: &mut [u64]) -> Verdict
     )
 }
 
-fn medium(image: &[u8], i: Image, room: usize, masks: &mut [u64]) -> Verdict
+fn medium(image: &[u8], i: Image, room: usize, masks: &mut [u64]) -> Result<(), Refusal>
     requires { Sized image.now i 512 masks.old }
     ensures { Judged (tables_of image.now) room result masks.old masks.new }
 {
@@ -132,7 +138,7 @@ fn medium(image: &[u8], i: Image, room: usize, masks: &mut [u64]) -> Verdict
     )
 }
 
-fn large(image: &[u8], i: Image, room: usize, masks: &mut [u64]) -> Verdict
+fn large(image: &[u8], i: Image, room: usize, masks: &mut [u64]) -> Result<(), Refusal>
     requires { Sized image.now i 2048 masks.old }
     ensures { Judged (tables_of image.now) room result masks.old masks.new }
 {
@@ -145,7 +151,7 @@ fn large(image: &[u8], i: Image, room: usize, masks: &mut [u64]) -> Verdict
     )
 }
 
-fn sized(image: &[u8], i: Image, room: usize, masks: &mut [u64]) -> Verdict
+fn sized(image: &[u8], i: Image, room: usize, masks: &mut [u64]) -> Result<(), Refusal>
     requires { Sized image.now i 2048 masks.old }
     ensures { Judged (tables_of image.now) room result masks.old masks.new }
 {
@@ -160,14 +166,14 @@ fn sized(image: &[u8], i: Image, room: usize, masks: &mut [u64]) -> Verdict
 }
 
 // 1 to 12, with room for so many sets, which are left in the masks.
-pub fn judge(image: &[u8], room: usize, masks: &mut [u64]) -> Verdict
+pub fn judge(image: &[u8], room: usize, masks: &mut [u64]) -> Result<(), Refusal>
     requires { 64 ≤ length masks.old }
     ensures { Checks image.now room result masks.old masks.new }
 {
     let v = tables(image);
     match v {
-        Verdict::Refused(_) => v,
-        Verdict::Accepted => {
+        Err(_) => v,
+        Ok(()) => {
             let i = trailer(image);
             sized(image, i, room, masks)
         }
@@ -175,7 +181,7 @@ pub fn judge(image: &[u8], room: usize, masks: &mut [u64]) -> Verdict
 }
 
 // 8 and 9 on scratch for 128 rows, for 512 and for any image.
-fn rules_small(image: &[u8], i: Image) -> Verdict
+fn rules_small(image: &[u8], i: Image) -> Result<(), Refusal>
     requires { Ruling image.now i 128 }
     ensures { result ≡ rules_verdict (tables_of image.now) }
 {
@@ -185,7 +191,7 @@ fn rules_small(image: &[u8], i: Image) -> Verdict
     rules(image, i, &mut uses, &mut defs, &mut leads)
 }
 
-fn rules_medium(image: &[u8], i: Image) -> Verdict
+fn rules_medium(image: &[u8], i: Image) -> Result<(), Refusal>
     requires { Ruling image.now i 512 }
     ensures { result ≡ rules_verdict (tables_of image.now) }
 {
@@ -195,7 +201,7 @@ fn rules_medium(image: &[u8], i: Image) -> Verdict
     rules(image, i, &mut uses, &mut defs, &mut leads)
 }
 
-fn rules_large(image: &[u8], i: Image) -> Verdict
+fn rules_large(image: &[u8], i: Image) -> Result<(), Refusal>
     requires { Ruling image.now i 2048 }
     ensures { result ≡ rules_verdict (tables_of image.now) }
 {
@@ -205,7 +211,7 @@ fn rules_large(image: &[u8], i: Image) -> Verdict
     rules(image, i, &mut uses, &mut defs, &mut leads)
 }
 
-fn rules_sized(image: &[u8], i: Image) -> Verdict
+fn rules_sized(image: &[u8], i: Image) -> Result<(), Refusal>
     requires { Ruling image.now i 2048 }
     ensures { result ≡ rules_verdict (tables_of image.now) }
 {
@@ -220,13 +226,13 @@ fn rules_sized(image: &[u8], i: Image) -> Verdict
 }
 
 // 1 to 9: what every call refuses first.
-pub fn image_verdict(image: &[u8]) -> Verdict
+pub fn image_verdict(image: &[u8]) -> Result<(), Refusal>
     ensures { result ≡ image_verdict image.now }
 {
     let v = tables(image);
     match v {
-        Verdict::Refused(_) => v,
-        Verdict::Accepted => {
+        Err(_) => v,
+        Ok(()) => {
             let i = trailer(image);
             rules_sized(image, i)
         }

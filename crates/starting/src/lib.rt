@@ -9,7 +9,7 @@ ghost use Rattle.starting.specs.Starting.{given_to, right_at, parameters_verdict
 
 use expressions::test;
 use image::{parameter, size, trailer, variable_count, variable_type};
-use model::{Image, Refusal, Tested, Variable, Verdict};
+use model::{Image, Refusal, Tested, Variable};
 use stages::image_verdict;
 use values::of_size;
 use words::copy;
@@ -66,7 +66,7 @@ fn right(image: &[u8], i: Image, work: &[i32], v: u16) -> bool
 }
 
 // 15: the lowest parameter outside its type.
-fn parameter_verdict(image: &[u8], i: Image, work: &[i32]) -> Verdict
+fn parameter_verdict(image: &[u8], i: Image, work: &[i32]) -> Result<(), Refusal>
     requires { Slotted image.now i work.now }
     ensures { result ≡ parameters_verdict (tables_of image.now) work.now }
 {
@@ -74,47 +74,53 @@ fn parameter_verdict(image: &[u8], i: Image, work: &[i32]) -> Verdict
     let mut v: u16 = 0;
     while v < count {
         if !right(image, i, work, v) {
-            return Verdict::Refused(Refusal::ParameterValue(Variable(v)));
+            return Err(Refusal::ParameterValue(Variable(v)));
         }
         v += 1;
     }
-    Verdict::Accepted
+    Ok(())
 }
 
 // 16: the initial condition.
-fn condition(image: &[u8], i: Image, work: &[i32]) -> Verdict
+fn condition(image: &[u8], i: Image, work: &[i32]) -> Result<(), Refusal>
     requires { Typed image.now i work.now }
     ensures { result ≡ condition_verdict (tables_of image.now) work.now }
 {
     match test(image, i.rows, i.condition, work) {
-        Tested::Holds => Verdict::Accepted,
-        Tested::Fails => Verdict::Refused(Refusal::ConditionFalse),
-        Tested::Unsure => Verdict::Refused(Refusal::ConditionFalse),
+        Tested::Holds => Ok(()),
+        Tested::Fails => Err(Refusal::ConditionFalse),
+        Tested::Unsure => Err(Refusal::ConditionFalse),
     }
 }
 
 // 15 and 16.
-fn values_verdict(image: &[u8], i: Image, work: &[i32]) -> Verdict
+fn values_verdict(image: &[u8], i: Image, work: &[i32]) -> Result<(), Refusal>
     requires { Filled image.now i work.now }
     ensures { result ≡ values_verdict (tables_of image.now) work.now }
 {
     let v = parameter_verdict(image, i, work);
     match v {
-        Verdict::Refused(_) => v,
-        Verdict::Accepted => condition(image, i, work),
+        Err(_) => v,
+        Ok(()) => condition(image, i, work),
     }
 }
 
 // 15 and 16 on a working copy that its caller lends: a refusal leaves the store alone.
-fn begin_on(image: &[u8], i: Image, params: &[i32], store: &mut [i32], work: &mut [i32]) -> Verdict
+fn begin_on(
+    image: &[u8],
+    i: Image,
+    params: &[i32],
+    store: &mut [i32],
+    work: &mut [i32],
+) -> Result<(), Refusal>
     requires { Begins image.now i params.now store.old work.old }
     ensures { record { answer = result; store = store.new } ≡ begun (tables_of image.now) params.now store.old }
 {
     fill(image, i, params, work);
     let v = values_verdict(image, i, work);
     match v {
-        Verdict::Refused(_) => v,
-        Verdict::Accepted => {
+        Err(_) => v,
+        Ok(()) => {
             copy(store, work);
             v
         }
@@ -122,7 +128,7 @@ fn begin_on(image: &[u8], i: Image, params: &[i32], store: &mut [i32], work: &mu
 }
 
 // The working copy has a function of its own, so that no other one's facts carry its 64 slots.
-fn begin(image: &[u8], i: Image, params: &[i32], store: &mut [i32]) -> Verdict
+fn begin(image: &[u8], i: Image, params: &[i32], store: &mut [i32]) -> Result<(), Refusal>
     requires { Filling image.now i params.now store.old }
     ensures { record { answer = result; store = store.new } ≡ begun (tables_of image.now) params.now store.old }
 {
@@ -132,27 +138,27 @@ fn begin(image: &[u8], i: Image, params: &[i32], store: &mut [i32]) -> Verdict
 }
 
 // 13 and 14, then the values.
-fn count(image: &[u8], i: Image, params: &[i32], store: &mut [i32]) -> Verdict
+fn count(image: &[u8], i: Image, params: &[i32], store: &mut [i32]) -> Result<(), Refusal>
     requires { Cleared image.now i }
     ensures { record { answer = result; store = store.new } ≡ counted (tables_of image.now) params.now store.old }
 {
     if store.len() != variable_count(image, i) as usize {
-        return Verdict::Refused(Refusal::StoreLength);
+        return Err(Refusal::StoreLength);
     }
     if params.len() != parameter_count(image, i) {
-        return Verdict::Refused(Refusal::ParameterCount);
+        return Err(Refusal::ParameterCount);
     }
     begin(image, i, params, store)
 }
 
 // The verdict on an image, parameter values and a store, and where it is accepted the store that the automaton starts with.
-pub fn start(image: &[u8], params: &[i32], store: &mut [i32]) -> Verdict
+pub fn start(image: &[u8], params: &[i32], store: &mut [i32]) -> Result<(), Refusal>
     ensures { record { answer = result; store = store.new } ≡ start image.now params.now store.old }
 {
     let v = image_verdict(image);
     match v {
-        Verdict::Refused(_) => v,
-        Verdict::Accepted => {
+        Err(_) => v,
+        Ok(()) => {
             let i = trailer(image);
             count(image, i, params, store)
         }

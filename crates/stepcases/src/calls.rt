@@ -2,7 +2,7 @@
 use crate::answer;
 use crate::build::{Length, build};
 use crate::scan::{Reading, sections};
-use model::{State, Stepped, Verdict};
+use model::{Move, Refusal, State};
 use starting::start;
 use std::io;
 use stepping::take_step;
@@ -39,11 +39,11 @@ fn begun(
     }
     let v = start(image, &params[..count], &mut store[..room]);
     match v {
-        Verdict::Refused(y) => {
+        Err(y) => {
             answer::refused(rt, y)?;
             answer::stays(rt, store, before, 0)
         }
-        Verdict::Accepted => {
+        Ok(()) => {
             answer::text(rt, b" started")?;
             answer::words(rt, store, room)?;
             answer::stays(rt, store, before, room)
@@ -107,12 +107,12 @@ fn stepped(
         &mut label[..ten],
     );
     match r {
-        Stepped::NotMoved(y) => {
+        Err(y) => {
             answer::refused(rt, y)?;
             answer::stays(rt, store, before, 0)?;
             answer::stays(rt, label, old, 0)
         }
-        Stepped::Moved(m) => {
+        Ok(m) => {
             answer::moved(rt, m)?;
             answer::words(rt, store, room)?;
             answer::words(rt, label, 10)?;

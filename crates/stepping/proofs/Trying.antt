@@ -1,9 +1,10 @@
 -- The run that a step tries. Assumes nothing.
+use Rattle.std.specs.Prelude.{Ok}
 use mathlib.Core.{Path.◌≡◌, Path.ap, Path.◌∙◌, Bool.true, Bool.false, List.List}
 use Prim.Native.Nat.{ℕ, ◌<◌}
 use native.Mathlib.Omega.{arith}
 use lib.{Dec.ltb, IntN.ℤ, ListN.length, ListN.get_or}
-use Rattle.model.specs.declared.{Image.Image, Outcome.Outcome, Verdict.TheVariants.Accepted}
+use Rattle.model.specs.declared.{Image.Image, Outcome.Outcome}
 use Rattle.model.specs.Image.{none, tables_of}
 use Rattle.model.specs.Rows.{action, is_root, is_kind}
 use Rattle.model.specs.Decode.{action_at}
@@ -20,7 +21,7 @@ use Rattle.stepping.specs.Stepping.{Trying}
 use Rattle.stages.proofs.Cleared.{located}
 
 -- a state's row is an action
-pub root-of : (s : List ℕ) → image_verdict s ≡ Accepted → (q : ℕ) → q < length (tables_of s).states → is_kind (tables_of s) action (get_or (tables_of s).states q none) ≡ true
+pub root-of : (s : List ℕ) → image_verdict s ≡ Ok tt → (q : ℕ) → q < length (tables_of s).states → is_kind (tables_of s) action (get_or (tables_of s).states q none) ≡ true
 unfolding is_root
 root-of s e q h =
     (both_true (ltb (get_or (tables_of s).states q none) (length (tables_of s).rows)) _ ((passed s e).free.roots q h)).1

@@ -13,7 +13,7 @@ use actions::{Ran, Run};
 use finishing::finish;
 use image::{size, state_count, state_row, trailer, variable_count, variable_type};
 use machine::run_action;
-use model::{Image, Refusal, State, Stepped, Variable, Verdict};
+use model::{Image, Move, Refusal, State, Variable};
 use stages::image_verdict;
 use told::{SLOTS, Values, outcome, put, taken};
 use values::of_size;
@@ -32,7 +32,7 @@ fn slot_fits(image: &[u8], i: Image, store: &[i32], v: u16) -> bool
 }
 
 // 18: the lowest slot that doesn't.
-fn slots_verdict(image: &[u8], i: Image, store: &[i32]) -> Verdict
+fn slots_verdict(image: &[u8], i: Image, store: &[i32]) -> Result<(), Refusal>
     requires { Slotted image.now i store.now }
     ensures { result ≡ slots_verdict (tables_of image.now) store.now }
 {
@@ -40,11 +40,11 @@ fn slots_verdict(image: &[u8], i: Image, store: &[i32]) -> Verdict
     let mut v: u16 = 0;
     while v < n {
         if !slot_fits(image, i, store, v) {
-            return Verdict::Refused(Refusal::SlotValue(Variable(v)));
+            return Err(Refusal::SlotValue(Variable(v)));
         }
         v += 1;
     }
-    Verdict::Accepted
+    Ok(())
 }
 
 // 17, 13, 18, 19, 20.
@@ -55,27 +55,27 @@ fn run_verdict(
     store: &[i32],
     budget: u32,
     label: &[i32],
-) -> Verdict
+) -> Result<(), Refusal>
     requires { Cleared image.now i }
     ensures { result ≡ run_verdict (tables_of image.now) q store.now budget label.now }
 {
     if state_count(image, i) <= q.0 {
-        return Verdict::Refused(Refusal::NoState);
+        return Err(Refusal::NoState);
     }
     if store.len() != variable_count(image, i) as usize {
-        return Verdict::Refused(Refusal::StoreLength);
+        return Err(Refusal::StoreLength);
     }
     let v = slots_verdict(image, i, store);
     match v {
-        Verdict::Refused(_) => v,
-        Verdict::Accepted => {
+        Err(_) => v,
+        Ok(()) => {
             if label.len() < Image::LABEL as usize {
-                return Verdict::Refused(Refusal::LabelShort);
+                return Err(Refusal::LabelShort);
             }
             if Image::BUDGET < budget {
-                return Verdict::Refused(Refusal::BudgetOver);
+                return Err(Refusal::BudgetOver);
             }
-            Verdict::Accepted
+            Ok(())
         }
     }
 }
@@ -121,7 +121,7 @@ fn finish_on(
     label: &mut [i32],
     work: &mut [i32],
     values: &mut [i32],
-) -> Stepped
+) -> Result<Move, Refusal>
     requires { Finishes ran budget store.old label.old work.old values.old }
     ensures { record { answer = result; store = store.new; label = label.new } ≡ moved_as (result_of ran work.old values.old) at budget store.old label.old }
 {
@@ -139,7 +139,7 @@ fn step_on(
     label: &mut [i32],
     work: &mut &mut [i32],
     values: &mut Values,
-) -> Stepped
+) -> Result<Move, Refusal>
     requires { Steps image.now i q store.old budget label.old work.old.now values.old }
     ensures { record { answer = result; store = store.new; label = label.new } ≡ ran (tables_of image.now) q store.old script.now budget label.old }
 {
@@ -157,7 +157,7 @@ fn run_step(
     script: &[u8],
     budget: u32,
     label: &mut [i32],
-) -> Stepped
+) -> Result<Move, Refusal>
     requires { Runs image.now i q store.old budget label.old }
     ensures { record { answer = result; store = store.new; label = label.new } ≡ ran (tables_of image.now) q store.old script.now budget label.old }
 {
@@ -185,18 +185,18 @@ pub fn take_step(
     script: &[u8],
     budget: u32,
     label: &mut [i32],
-) -> Stepped
+) -> Result<Move, Refusal>
     ensures { record { answer = result; store = store.new; label = label.new } ≡ step image.now q store.old script.now budget label.old }
 {
     let v = image_verdict(image);
     match v {
-        Verdict::Refused(y) => Stepped::NotMoved(y),
-        Verdict::Accepted => {
+        Err(y) => Err(y),
+        Ok(()) => {
             let i = trailer(image);
             let u = run_verdict(image, i, q, store, budget, label);
             match u {
-                Verdict::Refused(y) => Stepped::NotMoved(y),
-                Verdict::Accepted => run_step(image, i, q, store, script, budget, label),
+                Err(y) => Err(y),
+                Ok(()) => run_step(image, i, q, store, script, budget, label),
             }
         }
     }

@@ -1,11 +1,12 @@
 -- The rule of a row with the trailer's, and the lowest row whose rule fails. Assumes nothing.
+use Rattle.std.specs.Prelude.{Ok, Err}
 use mathlib.Core.{Path.◌≡◌, Path.refl, Path.sym, Path.◌∙◌}
 use mathlib.Core.{Bool.true, Bool.false, Bool.not, Bool.◌&&◌, Bool.◌||◌, List.List}
 use Prim.Native.Nat.{ℕ, ◌+◌, ◌<◌, ◌≤◌}
 use native.Mathlib.Omega.{arith}
 use lib.{Dec.eqb, Dec.ltb, ListN.length}
 use borrow.Author.Tests.{eq-eqb, ne_eqb}
-use Rattle.model.specs.declared.{Image.Image, Verdict.TheVariants.Accepted, Verdict.TheVariants.Refused, Refusal.TheVariants.Typing}
+use Rattle.model.specs.declared.{Image.Image, Refusal.TheVariants.Typing}
 use Rattle.model.specs.Answers.{row, lowest}
 use Rattle.model.specs.Image.{Tables, bool, tables_of}
 use Rattle.model.specs.Rows.{expression, is_kind, is_root}
@@ -63,13 +64,13 @@ none_yet e = record { count = e; inside = omega arith; passing = refl }
 pub one_more : {s : List ℕ} {n r : ℕ} → Passing s n r → r < n → typed (tables_of s) r ≡ true → Passing s n (r + 1)
 one_more {s} {n} {r} p h e = record { count = p.count; inside = omega arith; passing = lowest-pass (typed (tables_of s)) r p.passing e }
 
-pub refused-at : {s : List ℕ} {n r : ℕ} → Passing s n r → r < n → typed (tables_of s) r ≡ false → Refused (Typing (row r)) ≡ typing_verdict (tables_of s)
+pub refused-at : {s : List ℕ} {n r : ℕ} → Passing s n r → r < n → typed (tables_of s) r ≡ false → Err (Typing (row r)) ≡ typing_verdict (tables_of s)
 unfolding typing_verdict
 refused-at {s} {n} {r} p h e =
     let x = tables_of s in
     sym (each-refuses (typed x) (length x.rows) (λ k. Typing (row k)) r p.passing (omega (arith, p.count)) e)
 
-pub accepted : {s : List ℕ} {n r : ℕ} → Passing s n r → n ≤ r → Accepted ≡ typing_verdict (tables_of s)
+pub accepted : {s : List ℕ} {n r : ℕ} → Passing s n r → n ≤ r → Ok tt ≡ typing_verdict (tables_of s)
 unfolding typing_verdict
 accepted {s} {n} {r} p h =
     let x = tables_of s in

@@ -2,8 +2,8 @@
 use mathlib.Core.{Path.◌≡◌, Logic.◌⊎◌, Bool.Bool, Bool.true, Bool.false, Bool.◌&&◌, List.List}
 use Rattle.std.specs.Prelude.{ℕ, ◌≤◌, ◌<◌}
 use lib.{Dec.eqb, ListN.length}
-use Rattle.model.specs.declared.{Image.Image, Verdict.Verdict, Refusal.TheVariants.Typing}
-use Rattle.model.specs.Answers.{row, variable, each}
+use Rattle.model.specs.declared.{Image.Image, Refusal.TheVariants.Typing}
+use Rattle.model.specs.Answers.{row, variable, each, Verdict}
 use Rattle.model.specs.Lists.{all}
 use Rattle.model.specs.Image.{Tables, none, bool, int, tables_of, type_of, fields_of, row_count}
 use Rattle.model.specs.Rows.{Equal, Less, AtMost, Binary, logic, arithmetic, comparison, Kind, is_variable, is_constant, is_unary, is_binary, Means, an_expression, a_pattern, an_offer, an_action, another, shape_of, is_kind}

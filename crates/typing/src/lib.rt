@@ -9,7 +9,7 @@ ghost use Rattle.image.specs.Located.{Rooted};
 ghost use Rattle.typing.specs.Rules.{typing_verdict, row_typed, expression_type, condition_type, pattern_type, gets_typed, of_types_typed, arms_typed, range_typed, operand_of, result_of, takes_types, Operator, FormedRow, OfKind, OrNone, RootedRow};
 
 use image::{fields, row_count, variable_type};
-use model::{Image, Refusal, Row, Verdict};
+use model::{Image, Refusal, Row};
 
 const TAU: u16 = 0;
 
@@ -208,7 +208,7 @@ pub fn typed(image: &[u8], i: Image, r: u16) -> bool
 }
 
 // 8 at the lowest row whose rule fails.
-pub fn typing_verdict(image: &[u8], i: Image) -> Verdict
+pub fn typing_verdict(image: &[u8], i: Image) -> Result<(), Refusal>
     requires { Rooted image.now i }
     ensures { result ≡ typing_verdict (tables_of image.now) }
 {
@@ -216,9 +216,9 @@ pub fn typing_verdict(image: &[u8], i: Image) -> Verdict
     let mut r = 0;
     while r < n {
         if !typed(image, i, r) {
-            return Verdict::Refused(Refusal::Typing(Row(r)));
+            return Err(Refusal::Typing(Row(r)));
         }
         r += 1;
     }
-    Verdict::Accepted
+    Ok(())
 }

@@ -1,6 +1,6 @@
 // The run: start, then step after step.
 use crate::line;
-use model::{Image, State, Stepped, Verdict};
+use model::{Image, Move, Refusal, State};
 use starting::start;
 use std::io;
 use stepping::take_step;
@@ -33,7 +33,7 @@ fn one(
 ) -> io::Result<Place> {
     let r = take_step(image, q, store, b"", UNITS, label);
     match r {
-        Stepped::Moved(m) => {
+        Ok(m) => {
             let next = m.next;
             line::moved(rt, q, m, label)?;
             Ok(Place {
@@ -41,7 +41,7 @@ fn one(
                 ended: false,
             })
         }
-        Stepped::NotMoved(y) => {
+        Err(y) => {
             line::refused(rt, y)?;
             Ok(Place {
                 state: q,
@@ -68,8 +68,8 @@ pub(crate) fn table_writer(rt: &impl Print, image: &[u8]) -> io::Result<()> {
     let mut store = [0i32; VARIABLES];
     let mut label = [0i32; Image::LABEL as usize];
     match start(image, &params, &mut store) {
-        Verdict::Refused(y) => line::refused(rt, y),
-        Verdict::Accepted => {
+        Err(y) => line::refused(rt, y),
+        Ok(()) => {
             line::text(rt, b"state next units words gate values\n")?;
             steps(rt, image, &mut store, &mut label)?;
             line::store(rt, &store)

@@ -242,7 +242,7 @@ pub run_case-enum_known-z : goal.run_case-enum_known-z
 run_case-enum_known-z t c = search rules
 
 pub run_case-run_arms-requires : goal.run_case-run_arms-requires
-run_case-run_arms-requires t c = (omega (arith, c.decreases), (rw c.eval_on.ensures.1 (case-arms c.requires.0 c.eval_on.ensures.0 c.in-Is.is), c.requires.1))
+run_case-run_arms-requires t c = (omega (arith, c.decreases), (rw c.eval_on.ensures.1 (case-arms c.requires.0 c.eval_on.ensures.0 c.in-Some.is), c.requires.1))
 
 pub run_case-enum_told-1 : goal.run_case-enum_told-1
 run_case-enum_told-1 t c = search rules
@@ -250,19 +250,19 @@ run_case-enum_told-1 t c = search rules
 pub run_case-stopped-requires : goal.run_case-stopped-requires
 run_case-stopped-requires t c = omega arith
 
-pub run_case-returns-in-Is : goal.run_case-returns-in-Is
-run_case-returns-in-Is t c = record {
+pub run_case-returns-in-Some : goal.run_case-returns-in-Some
+run_case-returns-in-Some t c = record {
   told = c.run_arms.ensures.told;
-  result = case-is c.requires.0 _ _ (run_of c.args.run.now) c.eval_on.ensures.0 c.in-Is.is (rw c.eval_on.ensures.1 at c.run_arms.ensures.result);
+  result = case-is c.requires.0 _ _ (run_of c.args.run.now) c.eval_on.ensures.0 c.in-Some.is (rw c.eval_on.ensures.1 at c.run_arms.ensures.result);
   run = c.run_arms.ensures.run;
   store = c.run_arms.ensures.store ∙ ap length c.eval_on.ensures.1;
   values = c.run_arms.ensures.values;
 }
 
-pub run_case-returns-in-Unknown : goal.run_case-returns-in-Unknown
-run_case-returns-in-Unknown t c = record {
+pub run_case-returns-in-None : goal.run_case-returns-in-None
+run_case-returns-in-None t c = record {
   told = told-by c.stopped.ensures;
-  result = rw c.eval_on.ensures.1 (case-unknown c.requires.0 _ _ (run_of c.args.run.now) c.eval_on.ensures.0 c.in-Unknown.is (told-as (run_of c.args.run.now) c.stopped.ensures.outcome));
+  result = rw c.eval_on.ensures.1 (case-unknown c.requires.0 _ _ (run_of c.args.run.now) c.eval_on.ensures.0 c.in-None.is (told-as (run_of c.args.run.now) c.stopped.ensures.outcome));
   run = refl;
   store = ap length c.eval_on.ensures.1;
   values = refl;

@@ -2,13 +2,13 @@ use Rattle.stages.proofs.Stages.{trailer-there, rooted-there, to-sized, judge-st
 use Rattle.stages.proofs.judge.Goals as goal
 
 pub trailer-i-requires : goal.trailer-i-requires
-trailer-i-requires c = trailer-there _ c.tables-v.ensures c.in-Accepted.is
+trailer-i-requires c = trailer-there _ c.tables-v.ensures c.in-Ok.is
 
 pub sized-requires : goal.sized-requires
-sized-requires c = to-sized (rooted-there _ _ c.trailer-i.ensures c.tables-v.ensures c.in-Accepted.is) c.requires
+sized-requires c = to-sized (rooted-there _ _ c.trailer-i.ensures c.tables-v.ensures c.in-Ok.is) c.requires
 
-pub returns-in-Refused : goal.returns-in-Refused
-returns-in-Refused c = judge-stays _ _ _ _ c.tables-v.ensures c.in-Refused.is
+pub returns-in-Err : goal.returns-in-Err
+returns-in-Err c = judge-stays _ _ _ _ c.tables-v.ensures c.in-Err.is
 
-pub returns-in-Accepted : goal.returns-in-Accepted
-returns-in-Accepted c = judge-trees _ _ _ c.tables-v.ensures c.in-Accepted.is c.sized.ensures
+pub returns-in-Ok : goal.returns-in-Ok
+returns-in-Ok c = judge-trees _ _ _ c.tables-v.ensures c.in-Ok.is c.sized.ensures

@@ -5,8 +5,8 @@ use Rattle.starting.proofs.begin_on.Goals as goal
 pub values_verdict-v-requires : goal.values_verdict-v-requires
 values_verdict-v-requires c = filled_of c.requires.filling c.fill.auto.work c.fill.ensures
 
-pub returns-in-Refused : goal.returns-in-Refused
-returns-in-Refused c = begun-refused _ _ _ c.fill.ensures c.values_verdict-v.ensures _ c.in-Refused.is
+pub returns-in-Err : goal.returns-in-Err
+returns-in-Err c = begun-refused _ _ _ c.fill.ensures c.values_verdict-v.ensures _ c.in-Err.is
 
-pub returns-in-Accepted : goal.returns-in-Accepted
-returns-in-Accepted c = begun-accepted _ _ _ c.fill.ensures c.values_verdict-v.ensures c.in-Accepted.is c.copy.ensures
+pub returns-in-Ok : goal.returns-in-Ok
+returns-in-Ok c = begun-accepted _ _ _ c.fill.ensures c.values_verdict-v.ensures c.in-Ok.is c.copy.ensures

@@ -5,13 +5,13 @@ use native.Mathlib.Omega.{arith}
 use Rattle.starting.proofs.start.Goals as goal
 
 pub trailer-i-requires : goal.trailer-i-requires
-trailer-i-requires c = cleared-long _ c.image_verdict-v.ensures c.in-Accepted.is
+trailer-i-requires c = cleared-long _ c.image_verdict-v.ensures c.in-Ok.is
 
 pub count-requires : goal.count-requires
-count-requires c = to-cleared (λ j. omega (arith, c.shared_slice_known-1.given j)) c.image_verdict-v.ensures c.in-Accepted.is c.trailer-i.ensures
+count-requires c = to-cleared (λ j. omega (arith, c.shared_slice_known-1.given j)) c.image_verdict-v.ensures c.in-Ok.is c.trailer-i.ensures
 
-pub returns-in-Refused : goal.returns-in-Refused
-returns-in-Refused c = start-refused _ _ _ c.image_verdict-v.ensures _ c.in-Refused.is
+pub returns-in-Err : goal.returns-in-Err
+returns-in-Err c = start-refused _ _ _ c.image_verdict-v.ensures _ c.in-Err.is
 
-pub returns-in-Accepted : goal.returns-in-Accepted
-returns-in-Accepted c = start-counted _ _ _ c.image_verdict-v.ensures c.in-Accepted.is c.count.ensures
+pub returns-in-Ok : goal.returns-in-Ok
+returns-in-Ok c = start-counted _ _ _ c.image_verdict-v.ensures c.in-Ok.is c.count.ensures

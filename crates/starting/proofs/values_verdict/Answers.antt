@@ -6,10 +6,10 @@ pub parameter_verdict-v-requires : goal.parameter_verdict-v-requires
 parameter_verdict-v-requires c = c.requires.slotted
 
 pub condition-requires : goal.condition-requires
-condition-requires c = typed-of c.requires c.parameter_verdict-v.ensures c.in-Accepted.is
+condition-requires c = typed-of c.requires c.parameter_verdict-v.ensures c.in-Ok.is
 
-pub returns-in-Refused : goal.returns-in-Refused
-returns-in-Refused c = values-stays _ _ c.parameter_verdict-v.ensures _ c.in-Refused.is
+pub returns-in-Err : goal.returns-in-Err
+returns-in-Err c = values-stays _ _ c.parameter_verdict-v.ensures _ c.in-Err.is
 
-pub returns-in-Accepted : goal.returns-in-Accepted
-returns-in-Accepted c = values-condition _ _ c.parameter_verdict-v.ensures c.in-Accepted.is c.condition.ensures
+pub returns-in-Ok : goal.returns-in-Ok
+returns-in-Ok c = values-condition _ _ c.parameter_verdict-v.ensures c.in-Ok.is c.condition.ensures

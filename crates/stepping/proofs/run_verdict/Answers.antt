@@ -26,16 +26,16 @@ slots_verdict-v-requires c =
 
 pub returns-then-label : goal.returns-then-label
 returns-then-label c =
-    label-short c.requires c.args.q c.args.store.now c.args.budget c.args.label.now (omega (arith, c.if-state_count-q.false)) (c.if-store-variable_count.false ∙ c.variable_count.ensures) c.slots_verdict-v.ensures c.in-Accepted.is c.if-label.true
+    label-short c.requires c.args.q c.args.store.now c.args.budget c.args.label.now (omega (arith, c.if-state_count-q.false)) (c.if-store-variable_count.false ∙ c.variable_count.ensures) c.slots_verdict-v.ensures c.in-Ok.is c.if-label.true
 
 pub returns-then-budget-gt-BUDGET : goal.returns-then-budget-gt-BUDGET
 returns-then-budget-gt-BUDGET c =
-    budget-over c.requires c.args.q c.args.store.now c.args.budget c.args.label.now (omega (arith, c.if-state_count-q.false)) (c.if-store-variable_count.false ∙ c.variable_count.ensures) c.slots_verdict-v.ensures c.in-Accepted.is (omega (arith, c.if-label.false)) c.if-budget-gt-BUDGET.true
+    budget-over c.requires c.args.q c.args.store.now c.args.budget c.args.label.now (omega (arith, c.if-state_count-q.false)) (c.if-store-variable_count.false ∙ c.variable_count.ensures) c.slots_verdict-v.ensures c.in-Ok.is (omega (arith, c.if-label.false)) c.if-budget-gt-BUDGET.true
 
-pub returns-in-Refused : goal.returns-in-Refused
-returns-in-Refused c =
-    slot-wrong c.requires c.args.q c.args.store.now c.args.budget c.args.label.now (omega (arith, c.if-state_count-q.false)) (c.if-store-variable_count.false ∙ c.variable_count.ensures) _ c.slots_verdict-v.ensures c.in-Refused.is
+pub returns-in-Err : goal.returns-in-Err
+returns-in-Err c =
+    slot-wrong c.requires c.args.q c.args.store.now c.args.budget c.args.label.now (omega (arith, c.if-state_count-q.false)) (c.if-store-variable_count.false ∙ c.variable_count.ensures) _ c.slots_verdict-v.ensures c.in-Err.is
 
 pub returns-else-budget-gt-BUDGET : goal.returns-else-budget-gt-BUDGET
 returns-else-budget-gt-BUDGET c =
-    nothing-wrong c.requires c.args.q c.args.store.now c.args.budget c.args.label.now (omega (arith, c.if-state_count-q.false)) (c.if-store-variable_count.false ∙ c.variable_count.ensures) c.slots_verdict-v.ensures c.in-Accepted.is (omega (arith, c.if-label.false)) (omega (arith, c.if-budget-gt-BUDGET.false))
+    nothing-wrong c.requires c.args.q c.args.store.now c.args.budget c.args.label.now (omega (arith, c.if-state_count-q.false)) (c.if-store-variable_count.false ∙ c.variable_count.ensures) c.slots_verdict-v.ensures c.in-Ok.is (omega (arith, c.if-label.false)) (omega (arith, c.if-budget-gt-BUDGET.false))
