@@ -1,5 +1,6 @@
 -- Laws of the order in which refusals are given: `after`, `unless`, `lowest`, `each`. Assumes nothing.
-use Rattle.std.specs.Prelude.{Ok, Err}
+use Rattle.std.specs.Prelude.{Result, Ok, Err, IsErrAnd}
+use Rattle.std.proofs.lemmas.Result.{err_from_is_err_and}
 use mathlib.Core.{Path.◌≡◌, Path.refl, Path.sym, Path.◌∙◌, Logic.⊎_elim, Bool.Bool, Bool.true, Bool.false, Bool.cond, Bool.false≢true}
 use Prim.Native.Nat.{ℕ, zero, suc, ◌+◌, ◌<◌, ◌≤◌}
 use native.Mathlib.{Nat.eq-or-lt_of_le, Omega.arith}
@@ -25,6 +26,10 @@ pub after-assoc : (u v w : Verdict) → after (after u v) w ≡ after u (after v
 unfolding after
 after-assoc (Ok _) v w = refl
 after-assoc (Err y) v w = refl
+
+-- what a `?` leaves with is what it met
+pub passed-on : {T : Type 0} (r : Result T Refusal) (y : Refusal) → IsErrAnd r (λ e. e ≡ y) → r ≡ Err y
+passed-on r y h = let p = err_from_is_err_and r h in rw (← p.2) p.1
 
 pub unless-true : (b : Bool) (y : Refusal) → unless b y ≡ Ok tt → b ≡ true
 unless-true true y e = refl

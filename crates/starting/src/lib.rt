@@ -98,11 +98,8 @@ fn values_verdict(image: &[u8], i: Image, work: &[i32]) -> Result<(), Refusal>
     requires { Filled image.now i work.now }
     ensures { result ≡ values_verdict (tables_of image.now) work.now }
 {
-    let v = parameter_verdict(image, i, work);
-    match v {
-        Err(_) => v,
-        Ok(()) => condition(image, i, work),
-    }
+    parameter_verdict(image, i, work)?;
+    condition(image, i, work)
 }
 
 // 15 and 16 on a working copy that its caller lends: a refusal leaves the store alone.
@@ -155,12 +152,7 @@ fn count(image: &[u8], i: Image, params: &[i32], store: &mut [i32]) -> Result<()
 pub fn start(image: &[u8], params: &[i32], store: &mut [i32]) -> Result<(), Refusal>
     ensures { record { answer = result; store = store.new } ≡ start image.now params.now store.old }
 {
-    let v = image_verdict(image);
-    match v {
-        Err(_) => v,
-        Ok(()) => {
-            let i = trailer(image);
-            count(image, i, params, store)
-        }
-    }
+    image_verdict(image)?;
+    let i = trailer(image);
+    count(image, i, params, store)
 }
