@@ -15,8 +15,8 @@ ghost use Rattle.offers.specs.Asks.{Receives, Accepts, AcceptsAll, Communicates}
 use actions::{Ran, Run, Word, at_word, read_word};
 use expressions::{eval, row};
 use image::size;
-use model::{Fields, Image, Outcome, Refusal, Row};
-use patterns::{Match, matches};
+use model::{Fields, Image, Outcome, Refusal, Row, Tested};
+use patterns::matches;
 use typing::type_of_pattern;
 
 // The code of an emission.
@@ -58,9 +58,9 @@ fn receive(
         Word::Ended => Offered::Refused(Refusal::ScriptEnded(Row(place)), words),
         Word::OutOfRange => Offered::Refused(Refusal::WordOutOfRange(Row(place)), words + 1),
         Word::Read(z) => match matches(image, i.rows, p, z, store) {
-            Match::Matched => Offered::Gave(z, words + 1),
-            Match::Failed => Offered::Refused(Refusal::Blocked(Row(place)), words + 1),
-            Match::Unsure => Offered::Refused(Refusal::Undefined(Row(place)), words + 1),
+            Tested::Holds => Offered::Gave(z, words + 1),
+            Tested::Fails => Offered::Refused(Refusal::Blocked(Row(place)), words + 1),
+            Tested::Unsure => Offered::Refused(Refusal::Undefined(Row(place)), words + 1),
         },
     }
 }

@@ -18,11 +18,11 @@ overflow_add-result c = let i = word-inside _ _ _ c.read_word.ensures (λ e. let
 pub matches-requires : goal.matches-requires
 matches-requires c = tries c.requires _ c.args.place _ c.type_of_pattern.ensures c.size-n.ensures c.read_word.ensures c.in-Read.is
 
-pub overflow_add-result-in-Matched : goal.overflow_add-result-in-Matched
-overflow_add-result-in-Matched c = let i = word-inside _ _ _ c.read_word.ensures (λ e. let k : ◌≡◌ {A = ℕ} 0 1 = cc in absurd (omega arith)) in search rules
+pub overflow_add-result-in-Holds : goal.overflow_add-result-in-Holds
+overflow_add-result-in-Holds c = let i = word-inside _ _ _ c.read_word.ensures (λ e. let k : ◌≡◌ {A = ℕ} 0 1 = cc in absurd (omega arith)) in search rules
 
-pub overflow_add-result-in-Failed : goal.overflow_add-result-in-Failed
-overflow_add-result-in-Failed c = let i = word-inside _ _ _ c.read_word.ensures (λ e. let k : ◌≡◌ {A = ℕ} 0 1 = cc in absurd (omega arith)) in search rules
+pub overflow_add-result-in-Fails : goal.overflow_add-result-in-Fails
+overflow_add-result-in-Fails c = let i = word-inside _ _ _ c.read_word.ensures (λ e. let k : ◌≡◌ {A = ℕ} 0 1 = cc in absurd (omega arith)) in search rules
 
 pub overflow_add-result-in-Unsure : goal.overflow_add-result-in-Unsure
 overflow_add-result-in-Unsure c = let i = word-inside _ _ _ c.read_word.ensures (λ e. let k : ◌≡◌ {A = ℕ} 0 1 = cc in absurd (omega arith)) in search rules
@@ -33,11 +33,11 @@ returns-in-Ended c = receives-ended c.requires _ _ _ c.type_of_pattern.ensures c
 pub returns-in-OutOfRange : goal.returns-in-OutOfRange
 returns-in-OutOfRange c = receives-out c.requires _ _ _ c.type_of_pattern.ensures c.size-n.ensures c.read_word.ensures c.in-OutOfRange.is
 
-pub returns-in-Matched : goal.returns-in-Matched
-returns-in-Matched c = receives-matched c.requires _ _ _ c.type_of_pattern.ensures c.size-n.ensures c.read_word.ensures c.in-Read.is c.matches.ensures c.in-Matched.is
+pub returns-in-Holds : goal.returns-in-Holds
+returns-in-Holds c = receives-matched c.requires _ _ _ c.type_of_pattern.ensures c.size-n.ensures c.read_word.ensures c.in-Read.is c.matches.ensures c.in-Holds.is
 
-pub returns-in-Failed : goal.returns-in-Failed
-returns-in-Failed c = receives-failed c.requires _ _ _ c.type_of_pattern.ensures c.size-n.ensures c.read_word.ensures c.in-Read.is c.matches.ensures c.in-Failed.is
+pub returns-in-Fails : goal.returns-in-Fails
+returns-in-Fails c = receives-failed c.requires _ _ _ c.type_of_pattern.ensures c.size-n.ensures c.read_word.ensures c.in-Read.is c.matches.ensures c.in-Fails.is
 
 pub returns-in-Unsure : goal.returns-in-Unsure
 returns-in-Unsure c = receives-unsure c.requires _ _ _ c.type_of_pattern.ensures c.size-n.ensures c.read_word.ensures c.in-Read.is c.matches.ensures c.in-Unsure.is
