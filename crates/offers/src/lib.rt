@@ -9,7 +9,7 @@ ghost use Rattle.model.specs.Decode.{expression_at, pattern_at, offers_at};
 ghost use Rattle.model.specs.Run.{eval, offering, communicating};
 ghost use Rattle.expressions.specs.Ready.{Runs};
 ghost use Rattle.actions.specs.State.{state_of, result_of};
-ghost use Rattle.offers.specs.Accepting.{given, offer_by, emits, receives, accepts};
+ghost use Rattle.offers.specs.Accepting.{given, gave, refused, offer_by, emits, receives, accepts};
 ghost use Rattle.offers.specs.Asks.{Receives, Accepts, AcceptsAll, Communicates};
 
 use actions::{Ran, Run, Word, at_word, read_word};
@@ -24,9 +24,29 @@ const EMIT: u16 = 40;
 
 // What an offer gives, and the words read then.
 #[derive(Clone, Copy)]
-pub enum Offered {
-    Gave(i32, usize),
-    Refused(Refusal, usize),
+pub struct Offered {
+    pub value: Result<i32, Refusal>,
+    pub words: usize,
+}
+
+impl Offered {
+    fn gave(z: i32, words: usize) -> Offered
+        ensures { result ≡ gave z words }
+    {
+        Offered {
+            value: Ok(z),
+            words,
+        }
+    }
+
+    fn refused(y: Refusal, words: usize) -> Offered
+        ensures { result ≡ refused y words }
+    {
+        Offered {
+            value: Err(y),
+            words,
+        }
+    }
 }
 
 // An emission: the value of its expression.
@@ -35,8 +55,8 @@ fn emit(image: &[u8], rows: u16, place: u16, e: u16, store: &[i32], words: usize
     ensures { result ≡ emits (eval (tables_of image.now) (expression_at (tables_of image.now) e) store.now) place words }
 {
     match eval(image, rows, e, store) {
-        Some(z) => Offered::Gave(z, words),
-        None => Offered::Refused(Refusal::Undefined(Row(place)), words),
+        Some(z) => Offered::gave(z, words),
+        None => Offered::refused(Refusal::Undefined(Row(place)), words),
     }
 }
 
@@ -55,12 +75,12 @@ fn receive(
 {
     let n = size(image, i, type_of_pattern(image, i, p));
     match read_word(script, words, n) {
-        Word::Ended => Offered::Refused(Refusal::ScriptEnded(Row(place)), words),
-        Word::OutOfRange => Offered::Refused(Refusal::WordOutOfRange(Row(place)), words + 1),
+        Word::Ended => Offered::refused(Refusal::ScriptEnded(Row(place)), words),
+        Word::OutOfRange => Offered::refused(Refusal::WordOutOfRange(Row(place)), words + 1),
         Word::Read(z) => match matches(image, i.rows, p, z, store) {
-            Tested::Holds => Offered::Gave(z, words + 1),
-            Tested::Fails => Offered::Refused(Refusal::Blocked(Row(place)), words + 1),
-            Tested::Unsure => Offered::Refused(Refusal::Undefined(Row(place)), words + 1),
+            Tested::Holds => Offered::gave(z, words + 1),
+            Tested::Fails => Offered::refused(Refusal::Blocked(Row(place)), words + 1),
+            Tested::Unsure => Offered::refused(Refusal::Undefined(Row(place)), words + 1),
         },
     }
 }
@@ -103,17 +123,18 @@ fn accept_all(
     let mut r = w.b;
     while r != Image::NONE {
         let o = row(image, i.rows, r);
-        match accept(image, i, place, o, store, script, words) {
-            Offered::Refused(y, n) => {
+        let offered = accept(image, i, place, o, store, script, words);
+        words = offered.words;
+        match offered.value {
+            Err(y) => {
                 return Ran {
                     out: Outcome::Stops(y),
-                    run: at_word(run, n),
+                    run: at_word(run, words),
                 };
             }
-            Offered::Gave(z, n) => {
+            Ok(z) => {
                 values[count as usize] = z;
                 count += 1;
-                words = n;
                 r = o.b;
             }
         }
