@@ -10,7 +10,7 @@ ghost use Rattle.model.specs.Decode.{gets_at, variables_at, of_types_at, conditi
 ghost use Rattle.model.specs.Run.{choosing, resetting};
 ghost use Rattle.actions.specs.Doing.{Doing, trying};
 ghost use Rattle.actions.specs.Items.{Items, assigns};
-ghost use Rattle.actions.specs.State.{run_at, Silent};
+ghost use Rattle.actions.specs.State.{Silent};
 ghost use Rattle.actions.specs.Words.{word_of, Drawn, drawing};
 
 use expressions::{eval, row, test};
@@ -114,19 +114,6 @@ pub fn read_word(script: &[u8], i: usize, n: u16) -> Word
     Word::OutOfRange
 }
 
-// A run with so many words read.
-pub fn at_word(run: Run, words: usize) -> Run
-    ensures { result ≡ run_at run words }
-{
-    Run {
-        words: words,
-        left: run.left,
-        spoken: run.spoken,
-        gate: run.gate,
-        count: run.count,
-    }
-}
-
 // Any's words: each is read, judged and stored in its turn.
 pub fn draw(
     image: &[u8],
@@ -148,13 +135,16 @@ pub fn draw(
             Word::Ended => {
                 return Ran {
                     out: Outcome::Stops(Refusal::ScriptEnded(Row(place))),
-                    run: at_word(run, words),
+                    run: Run { words, ..run },
                 };
             }
             Word::OutOfRange => {
                 return Ran {
                     out: Outcome::Stops(Refusal::WordOutOfRange(Row(place))),
-                    run: at_word(run, words + 1),
+                    run: Run {
+                        words: words + 1,
+                        ..run
+                    },
                 };
             }
             Word::Read(z) => {
@@ -166,7 +156,7 @@ pub fn draw(
     }
     Ran {
         out: Outcome::Ends,
-        run: at_word(run, words),
+        run: Run { words, ..run },
     }
 }
 
@@ -188,21 +178,21 @@ fn try_condition(image: &[u8], rows: u16, r: u16, c: u16, store: &[i32], run: Ru
     if c == Image::NONE {
         return Ran {
             out: Outcome::Ends,
-            run: run,
+            run,
         };
     }
     match test(image, rows, c, store) {
         Tested::Holds => Ran {
             out: Outcome::Ends,
-            run: run,
+            run,
         },
         Tested::Fails => Ran {
             out: Outcome::Stops(blocked_at(r, run.spoken)),
-            run: run,
+            run,
         },
         Tested::Unsure => Ran {
             out: Outcome::Stops(Refusal::Undefined(Row(r))),
-            run: run,
+            run,
         },
     }
 }

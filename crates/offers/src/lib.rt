@@ -12,7 +12,7 @@ ghost use Rattle.actions.specs.State.{state_of, result_of};
 ghost use Rattle.offers.specs.Accepting.{given, gave, refused, offer_by, emits, receives, accepts};
 ghost use Rattle.offers.specs.Asks.{Receives, Accepts, AcceptsAll, Communicates};
 
-use actions::{Ran, Run, Word, at_word, read_word};
+use actions::{Ran, Run, Word, read_word};
 use expressions::{eval, row};
 use image::size;
 use model::{Fields, Image, Outcome, Refusal, Row, Tested};
@@ -129,7 +129,7 @@ fn accept_all(
             Err(y) => {
                 return Ran {
                     out: Outcome::Stops(y),
-                    run: at_word(run, words),
+                    run: Run { words, ..run },
                 };
             }
             Ok(z) => {
@@ -142,11 +142,11 @@ fn accept_all(
     Ran {
         out: Outcome::Ends,
         run: Run {
-            words: words,
-            left: run.left,
+            words,
             spoken: true,
             gate: w.a,
-            count: count,
+            count,
+            ..run
         },
     }
 }
@@ -168,7 +168,7 @@ pub fn communicate(
     if run.spoken {
         return Ran {
             out: Outcome::Stops(Refusal::SecondCommunication(Row(r))),
-            run: run,
+            run,
         };
     }
     accept_all(image, i, r, w, store, script, values, run)

@@ -14,11 +14,8 @@ row-o-requires c = row_from refl (here-row c.loop-r.invariant.items c.loop-r-tes
 pub accept-offered-requires : goal.accept-offered-requires
 accept-offered-requires c = asks c.requires c.loop-r.invariant c.loop-r-test.true c.row-o.ensures
 
-pub at_word-requires : goal.at_word-requires
-at_word-requires c = tt
-
 pub returns-in-Err : goal.returns-in-Err
-returns-in-Err c = rw c.at_word.ensures (along-refused c.requires c.loop-r.invariant c.loop-r-test.true c.row-o.ensures c.accept-offered.ensures c.in-Err.is)
+returns-in-Err c = along-refused c.requires c.loop-r.invariant c.loop-r-test.true c.row-o.ensures c.accept-offered.ensures c.in-Err.is
 
 pub bounds-values-count : goal.bounds-values-count
 bounds-values-count c = omega (arith, count-in c.requires c.loop-r.invariant c.loop-r-test.true c.row-o.ensures, c.loop-r.invariant.room)
