@@ -86,18 +86,10 @@ fn others_fit(image: &[u8], i: Image) -> bool
     ensures { result ≡ others_fit (drop 2 (tables_of image.now).sizes) }
 {
     let n = type_count(image, i);
-    let mut t: u16 = 2;
-    while t < n {
+    (2..n).all(|t| {
         let k = size(image, i, t);
-        if k < Image::VALUES_LEAST {
-            return false;
-        }
-        if Image::VALUES < k {
-            return false;
-        }
-        t += 1;
-    }
-    true
+        Image::VALUES_LEAST <= k && k <= Image::VALUES
+    })
 }
 
 fn sizes_fit(image: &[u8], i: Image) -> bool
@@ -119,17 +111,7 @@ fn entries_fit(image: &[u8], i: Image) -> bool
 {
     let types = type_count(image, i);
     let n = variable_count(image, i);
-    let mut v: u16 = 0;
-    while v < n {
-        if types <= variable_type(image, i, v) {
-            return false;
-        }
-        if 1 < parameter(image, i, v) {
-            return false;
-        }
-        v += 1;
-    }
-    true
+    (0..n).all(|v| variable_type(image, i, v) < types && parameter(image, i, v) <= 1)
 }
 
 // 1 to 4, the first that is met.

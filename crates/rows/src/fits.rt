@@ -1,7 +1,7 @@
 // Number 5: whether a row's fields are as its line says.
 ghost use Rattle.std.specs.Prelude.{◌≡◌, ◌&&◌, ◌||◌, ℕ, ◌/◌, ◌≤◌, ◌<◌};
 ghost use lib.{Dec.eqb, Dec.ltb, ListN.length};
-ghost use Rattle.model.specs.Answers.{lowest};
+ghost use Rattle.model.specs.Answers.{lowest_failing};
 ghost use Rattle.model.specs.Image.{none, int, tables_of, size_of};
 ghost use Rattle.model.specs.Rows.{Kind, shape_of, number_of_kind, next_of, names, list_fits, formed};
 ghost use Rattle.image.specs.Located.{Located};
@@ -209,17 +209,10 @@ fn formed(image: &[u8], i: Image, lines: &[u32; CODES], r: u16) -> bool
     }
 }
 
-// The lowest of n rows that isn't formed, or n.
-pub fn malformed(image: &[u8], i: Image, lines: &[u32; CODES], n: u16) -> u16
+// The lowest of n rows that isn't formed.
+pub fn malformed(image: &[u8], i: Image, lines: &[u32; CODES], n: u16) -> Option<u16>
     requires { Below image.now lines.now i n }
-    ensures { result ≡ lowest (formed (tables_of image.now)) n }
+    ensures { result ≡ lowest_failing (formed (tables_of image.now)) n }
 {
-    let mut r: u16 = 0;
-    while r < n {
-        if !formed(image, i, lines, r) {
-            return r;
-        }
-        r += 1;
-    }
-    n
+    (0..n).find(|r| !formed(image, i, lines, *r))
 }

@@ -1,8 +1,8 @@
 // The rows of an image: each as the table of codes says (5), the roots of their kinds (6), each row named once (7).
 #![tactic(auto)]
 
-ghost use Rattle.std.specs.Prelude.{◌≡◌, length};
-ghost use Rattle.model.specs.Answers.{lowest};
+ghost use Rattle.std.specs.Prelude.{◌≡◌, ◌<◌, length};
+ghost use Rattle.model.specs.Answers.{lowest_failing};
 ghost use Rattle.model.specs.Image.{tables_of};
 ghost use Rattle.model.specs.Rows.{Kind, number_of_kind, is_root};
 ghost use Rattle.model.specs.Calls.{rows_verdict};
@@ -28,20 +28,20 @@ fn is_root(image: &[u8], i: Image, lines: &[u32; CODES], k: u32, r: u16) -> bool
     names(image, i, lines, n, k, r)
 }
 
-// The lowest of the n states whose row is no action, or n.
-fn not_rooted(image: &[u8], i: Image, lines: &[u32; CODES], n: u16) -> u16
-    requires { Reading image.now lines.now i × (n ≡ length (tables_of image.now).states) }
-    ensures { result ≡ lowest (rooted (tables_of image.now)) n }
+// State q's row is an action.
+fn rooted(image: &[u8], i: Image, lines: &[u32; CODES], q: u16) -> bool
+    requires { Reading image.now lines.now i × (q < length (tables_of image.now).states) }
+    ensures { result ≡ rooted (tables_of image.now) q }
 {
-    let mut q: u16 = 0;
-    while q < n {
-        let r = state_row(image, i, q);
-        if !is_root(image, i, lines, ACTION, r) {
-            return q;
-        }
-        q += 1;
-    }
-    n
+    is_root(image, i, lines, ACTION, state_row(image, i, q))
+}
+
+// The lowest of the n states whose row is no action.
+fn not_rooted(image: &[u8], i: Image, lines: &[u32; CODES], n: u16) -> Option<u16>
+    requires { Reading image.now lines.now i × (n ≡ length (tables_of image.now).states) }
+    ensures { result ≡ lowest_failing (rooted (tables_of image.now)) n }
+{
+    (0..n).find(|q| !rooted(image, i, lines, *q))
 }
 
 // 5, then 6, then 7, each at the lowest place, by the table of codes.
@@ -50,20 +50,17 @@ fn verdict_by(image: &[u8], i: Image, lines: &[u32; CODES]) -> Result<(), Refusa
     ensures { result ≡ rows_verdict (tables_of image.now) }
 {
     let rows = row_count(image, i);
-    let r = malformed(image, i, lines, rows);
-    if r < rows {
+    if let Some(r) = malformed(image, i, lines, rows) {
         return Err(Refusal::Malformed(Row(r)));
     }
     let states = state_count(image, i);
-    let q = not_rooted(image, i, lines, states);
-    if q < states {
+    if let Some(q) = not_rooted(image, i, lines, states) {
         return Err(Refusal::NoAction(State(q)));
     }
     if !is_root(image, i, lines, EXPRESSION, i.condition) {
         return Err(Refusal::NoCondition(states));
     }
-    let m = not_once(image, i, lines, rows);
-    if m < rows {
+    if let Some(m) = not_once(image, i, lines, rows) {
         return Err(Refusal::NotNamedOnce(Row(m)));
     }
     Ok(())

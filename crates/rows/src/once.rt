@@ -1,6 +1,6 @@
 // Number 7: each row is named exactly once. The namings of each row are counted, up to 2.
 ghost use Rattle.std.specs.Prelude.{◌≡◌, [], ◌∷◌, ◌+◌, ◌≤◌, min, length};
-ghost use Rattle.model.specs.Answers.{lowest};
+ghost use Rattle.model.specs.Answers.{lowest_failing};
 ghost use Rattle.model.specs.Image.{none, tables_of};
 ghost use Rattle.model.specs.Rows.{Field, named_by, named_in, named_by_rows, named_once};
 ghost use Rattle.image.specs.Located.{Located};
@@ -56,11 +56,8 @@ fn count_rows(counts: &mut [u8], image: &[u8], i: Image, lines: &[u32; CODES])
     ensures { Counted counts.old counts.new (named_by_rows (tables_of image.now).rows) }
 {
     let n = row_count(image, i);
-    let mut r: u16 = 0;
-    while r < n {
-        let w = fields(image, i, r);
-        count_row(counts, lines, w);
-        r += 1;
+    for r in 0..n {
+        count_row(counts, lines, fields(image, i, r));
     }
 }
 
@@ -70,34 +67,29 @@ fn count_states(counts: &mut [u8], image: &[u8], i: Image)
     ensures { Counted counts.old counts.new (tables_of image.now).states }
 {
     let n = state_count(image, i);
-    let mut q: u16 = 0;
-    while q < n {
-        let r = state_row(image, i, q);
-        count(counts, r);
-        q += 1;
+    for q in 0..n {
+        count(counts, state_row(image, i, q));
     }
 }
 
-// The lowest of n rows that isn't counted once, or n.
-fn not_one(counts: &[u8], n: u16) -> u16
+// The lowest of n rows that isn't counted once.
+fn not_one(counts: &[u8], n: u16) -> Option<u16>
     requires { n ≡ length counts.now }
-    ensures { result ≡ lowest (once_in counts.now) n }
+    ensures { result ≡ lowest_failing (once_in counts.now) n }
 {
-    let mut r: u16 = 0;
-    while r < n {
-        let at = r as usize;
-        if counts[at] != 1 {
-            return r;
-        }
-        r += 1;
-    }
-    n
+    (0..n).find(|r| counts[*r as usize] != 1)
 }
 
-// The lowest of n rows that isn't named once, or n, by counts that are 0.
-fn not_once_by(counts: &mut [u8], image: &[u8], i: Image, lines: &[u32; CODES], n: u16) -> u16
+// The lowest of n rows that isn't named once, by counts that are 0.
+fn not_once_by(
+    counts: &mut [u8],
+    image: &[u8],
+    i: Image,
+    lines: &[u32; CODES],
+    n: u16,
+) -> Option<u16>
     requires { Reading image.now lines.now i × Scratch counts.old n }
-    ensures { result ≡ lowest (named_once (tables_of image.now)) n }
+    ensures { result ≡ lowest_failing (named_once (tables_of image.now)) n }
 {
     count_rows(counts, image, i, lines);
     count_states(counts, image, i);
@@ -105,10 +97,10 @@ fn not_once_by(counts: &mut [u8], image: &[u8], i: Image, lines: &[u32; CODES], 
     not_one(counts, n)
 }
 
-// The lowest of the n rows that isn't named once, or n.
-pub fn not_once(image: &[u8], i: Image, lines: &[u32; CODES], n: u16) -> u16
+// The lowest of the n rows that isn't named once.
+pub fn not_once(image: &[u8], i: Image, lines: &[u32; CODES], n: u16) -> Option<u16>
     requires { Reading image.now lines.now i × (n ≡ length (tables_of image.now).rows) }
-    ensures { result ≡ lowest (named_once (tables_of image.now)) n }
+    ensures { result ≡ lowest_failing (named_once (tables_of image.now)) n }
 {
     let mut counts = [0u8; Image::ROWS as usize];
     let end = n as usize;

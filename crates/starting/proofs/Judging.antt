@@ -1,13 +1,12 @@
 -- 13 to 16 in their order. Assumes nothing.
 use Rattle.std.specs.Prelude.{Ok, Err}
 use mathlib.Core.{Path.◌≡◌, Path.sym, Path.ap, Path.◌∙◌, Bool.Bool, Bool.true, Bool.false, List.List}
-use Prim.Native.Nat.{ℕ, ◌^◌, ◌≤◌, ◌<◌}
-use native.Mathlib.Omega.{arith}
+use Prim.Native.Nat.{ℕ, ◌^◌, ◌<◌}
 use lib.{Dec.ltb, IntN.ℤ, IntN.pos, Signed.mag, ListN.length, ListN.get_or}
 use borrow.Author.Tests.{eq-eqb, ne_eqb}
 use Rattle.values.proofs.Held.{held, held-is}
-use Rattle.model.specs.declared.{Image.Image, Refusal.Refusal, Refusal.TheVariants.StoreLength, Refusal.TheVariants.ParameterCount, Refusal.TheVariants.ParameterValue, Refusal.TheVariants.ConditionFalse, Tested.Tested, Tested.TheVariants.Holds, Tested.TheVariants.Fails, Tested.TheVariants.Unsure}
-use Rattle.model.specs.Answers.{variable, after, unless, lowest, Verdict}
+use Rattle.model.specs.declared.{Image.Image, Refusal.Refusal, Refusal.TheVariants.StoreLength, Refusal.TheVariants.ParameterCount, Refusal.TheVariants.ConditionFalse, Tested.Tested, Tested.TheVariants.Holds, Tested.TheVariants.Fails, Tested.TheVariants.Unsure}
+use Rattle.model.specs.Answers.{variable, after, unless, Verdict}
 use Rattle.model.specs.Values.{of_size}
 use Rattle.model.specs.Image.{Tables, tables_of, entry_of, type_of, size_of}
 use Rattle.model.specs.Rows.{expression, is_root}
@@ -15,7 +14,7 @@ use Rattle.model.specs.Decode.{initial, expression_at}
 use Rattle.model.specs.Run.{slot, test}
 use Rattle.model.specs.Calls.{image_verdict, parameter_count, started, slot_of_type, start_verdict, Started, start}
 use Rattle.model.proofs.Rows.{both_true}
-use Rattle.model.proofs.Order.{after-accepted, after-refused, each-full, each-refuses, each_all}
+use Rattle.model.proofs.Order.{after-accepted, after-refused, each_all}
 use Rattle.image.proofs.Laid.{condition-is}
 use Rattle.expressions.specs.Ready.{Runs}
 use Rattle.expressions.proofs.Operated.{get_d_any}
@@ -36,19 +35,6 @@ module _ (x : Tables) (m : List ℤ) (v : ℕ) {p : ℕ} (e : p ≡ (entry_of x 
   unfolding right_at slot_of_type slot
   right-typed hf one ty si h f g =
       g ∙ sym (rw (eq-eqb (entry_of x (variable v)).parameter 1 (sym e ∙ one), hf, ← ty, ← si, held-is (get_or m v (pos 0)) f) (ap (of_size 32768 _) (get_d_any m v _ (pos 0) h)))
-
--- 15
-module _ (x : Tables) (m : List ℤ) where
-  pub parameters-passed : {v : ℕ} → length x.variables ≤ v → v ≤ length x.variables → lowest (right_at x m) v ≡ v → Ok tt ≡ parameters_verdict x m
-  unfolding parameters_verdict
-  parameters-passed {v} h k l =
-      let e : v ≡ length x.variables = omega arith in
-      sym (each-full (right_at x m) (length x.variables) _ (rw e at l))
-
-  pub parameters-refused : {v : ℕ} {b : Bool} → lowest (right_at x m) v ≡ v → v < length x.variables → b ≡ right_at x m v → b ≡ false
-      → Err (ParameterValue (variable v)) ≡ parameters_verdict x m
-  unfolding parameters_verdict
-  parameters-refused {v} l h e f = sym (each-refuses (right_at x m) (length x.variables) (λ u. ParameterValue (variable u)) v l h (sym e ∙ f))
 
 -- 16
 pub runs : {s : List ℕ} {i : Image} {m : List ℤ} → Typed s i m → Runs expression s i.rows i.condition m

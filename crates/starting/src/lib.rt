@@ -21,10 +21,8 @@ fn parameter_count(image: &[u8], i: Image) -> usize
 {
     let count = variable_count(image, i);
     let mut n: usize = 0;
-    let mut v: u16 = 0;
-    while v < count {
+    for v in 0..count {
         n += parameter(image, i, v) as usize;
-        v += 1;
     }
     n
 }
@@ -44,12 +42,10 @@ fn fill(image: &[u8], i: Image, params: &[i32], work: &mut [i32])
 {
     let count = variable_count(image, i);
     let mut k: usize = 0;
-    let mut v: u16 = 0;
-    while v < count {
+    for v in 0..count {
         let p = parameter(image, i, v);
         work[v as usize] = given(p, params, k);
         k += p as usize;
-        v += 1;
     }
 }
 
@@ -71,14 +67,10 @@ fn parameter_verdict(image: &[u8], i: Image, work: &[i32]) -> Result<(), Refusal
     ensures { result ≡ parameters_verdict (tables_of image.now) work.now }
 {
     let count = variable_count(image, i);
-    let mut v: u16 = 0;
-    while v < count {
-        if !right(image, i, work, v) {
-            return Err(Refusal::ParameterValue(Variable(v)));
-        }
-        v += 1;
+    match (0..count).find(|v| !right(image, i, work, *v)) {
+        Some(v) => Err(Refusal::ParameterValue(Variable(v))),
+        None => Ok(()),
     }
-    Ok(())
 }
 
 // 16: the initial condition.

@@ -1,14 +1,14 @@
 -- 18, slot by slot. Assumes nothing.
 use Rattle.std.specs.Prelude.{Ok, Err}
 use mathlib.Core.{Path.◌≡◌, Path.sym, Path.ap, Path.◌∙◌, Bool.Bool, Bool.true, Bool.false, Bool.◌||◌, List.List}
-use Prim.Native.Nat.{ℕ, ◌+◌, ◌^◌, ◌≤◌, ◌<◌}
+use Prim.Native.Nat.{ℕ, ◌^◌, ◌≤◌, ◌<◌}
 use native.Mathlib.Omega.{arith}
 use lib.{Dec.eqb, Dec.leb, Dec.ltb, IntN.ℤ, IntN.pos, ListN.length, ListN.get_or, Signed.mag}
 use mir.{Syntax.w32, Val.to_z, Val.of_z}
 use borrow.Author.Tests.{lt-ltb, le-ltb, lt-leb, le-leb, eq-eqb, ne_eqb}
-use Rattle.model.specs.declared.{Image.Image, State.State, Refusal.Refusal, Refusal.TheVariants.NoState, Refusal.TheVariants.StoreLength, Refusal.TheVariants.SlotValue, Refusal.TheVariants.LabelShort, Refusal.TheVariants.BudgetOver}
-use Rattle.model.specs.Answers.{variable, after, unless, lowest, Verdict}
-use Rattle.model.proofs.Order.{after-accepted, after-refused, lowest-full, lowest-pass, each-full, each-refuses}
+use Rattle.model.specs.declared.{Image.Image, State.State, Refusal.Refusal, Refusal.TheVariants.NoState, Refusal.TheVariants.StoreLength, Refusal.TheVariants.LabelShort, Refusal.TheVariants.BudgetOver}
+use Rattle.model.specs.Answers.{variable, after, unless, Verdict}
+use Rattle.model.proofs.Order.{after-accepted, after-refused}
 use Rattle.model.specs.Values.{half16, mark, same, of_size}
 use Rattle.model.specs.Image.{tables_of, size_of, entry_of}
 use Rattle.model.specs.Run.{slot}
@@ -57,22 +57,6 @@ module _ {s : List ℕ} {i : Image} {m : List ℤ} {v : ℕ} (h : SlotIn s i m v
       let d : same z (mark half16) ≡ false = same-ne z (pos 65536) (λ q. f (ap (of_z w32) q)) in
       let q : same (slot (tables_of s) m (variable v)) (mark half16) ≡ false = rw (held-slot e) d in
       l ∙ rw (held-is z b, k, g, ← held-slot e) (sym (ap (λ (y : Bool). y || slot_of_type (tables_of s) m v) q))
-
--- the loop over the slots
-module _ {s : List ℕ} {i : Image} {m : List ℤ} (h : Slotted s i m) where
-  pub none_yet : lowest (slot_fits (tables_of s) m) 0 ≡ 0
-  none_yet = lowest-full (slot_fits (tables_of s) m) 0 (λ k l. absurd (omega arith))
-
-  pub one_more : (v : ℕ) {b : Bool} → lowest (slot_fits (tables_of s) m) v ≡ v → b ≡ slot_fits (tables_of s) m v → b ≡ true → lowest (slot_fits (tables_of s) m) (v + 1) ≡ v + 1
-  one_more v {b} e f t = lowest-pass (slot_fits (tables_of s) m) v e (sym f ∙ t)
-
-  pub wrong-here : (v : ℕ) {b : Bool} → v < length (tables_of s).variables → lowest (slot_fits (tables_of s) m) v ≡ v → b ≡ slot_fits (tables_of s) m v → b ≡ false
-      → Err (SlotValue (variable v)) ≡ slots_verdict (tables_of s) m
-  wrong-here v {b} l e f t =
-      sym (each-refuses (slot_fits (tables_of s) m) (length (tables_of s).variables) _ v e l (sym f ∙ t))
-
-  pub all_fit : (v : ℕ) → v ≡ length (tables_of s).variables → lowest (slot_fits (tables_of s) m) v ≡ v → Ok tt ≡ slots_verdict (tables_of s) m
-  all_fit v n e = sym (each-full (slot_fits (tables_of s) m) (length (tables_of s).variables) _ (rw (← n) e))
 
 -- 17 to 20
 module _ {s : List ℕ} {i : Image} (h : Cleared s i) (q : State) (m : List ℤ) (budget : ℕ) (label : List ℤ) where

@@ -37,14 +37,10 @@ fn slots_verdict(image: &[u8], i: Image, store: &[i32]) -> Result<(), Refusal>
     ensures { result ≡ slots_verdict (tables_of image.now) store.now }
 {
     let n = variable_count(image, i);
-    let mut v: u16 = 0;
-    while v < n {
-        if !slot_fits(image, i, store, v) {
-            return Err(Refusal::SlotValue(Variable(v)));
-        }
-        v += 1;
+    match (0..n).find(|v| !slot_fits(image, i, store, *v)) {
+        Some(v) => Err(Refusal::SlotValue(Variable(v))),
+        None => Ok(()),
     }
-    Ok(())
 }
 
 // 17, 13, 18, 19, 20.

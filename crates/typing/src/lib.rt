@@ -213,12 +213,8 @@ pub fn typing_verdict(image: &[u8], i: Image) -> Result<(), Refusal>
     ensures { result ≡ typing_verdict (tables_of image.now) }
 {
     let n = row_count(image, i);
-    let mut r = 0;
-    while r < n {
-        if !typed(image, i, r) {
-            return Err(Refusal::Typing(Row(r)));
-        }
-        r += 1;
+    match (0..n).find(|r| !typed(image, i, *r)) {
+        Some(r) => Err(Refusal::Typing(Row(r))),
+        None => Ok(()),
     }
-    Ok(())
 }

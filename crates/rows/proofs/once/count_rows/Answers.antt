@@ -8,8 +8,8 @@ use Rattle.rows.proofs.once.count_rows.Goals as goal
 pub loop-r-init : goal.loop-r-init
 loop-r-init c = rows_start (tables_of c.args.image.now) _
 
-pub fields-w-requires : goal.fields-w-requires
-fields-w-requires c = row_in c.requires.1.located _ (omega (arith, c.row_count-n.ensures))
+pub fields-requires : goal.fields-requires
+fields-requires c = row_in c.requires.1.located _ (omega (arith, c.row_count-n.ensures))
 
 pub count_row-requires : goal.count_row-requires
 count_row-requires c =
@@ -18,7 +18,7 @@ count_row-requires c =
 pub loop-r-preserved : goal.loop-r-preserved
 loop-r-preserved c =
     rows-turn (tables_of c.args.image.now) _ c.loop-r.invariant
-    (omega (arith, c.loop-r-test.true, c.row_count-n.ensures)) c.fields-w.ensures c.count_row.ensures
+    (omega (arith, c.loop-r-test.true, c.row_count-n.ensures)) c.fields.ensures c.count_row.ensures
 
 pub shape_of-counts : goal.shape_of-counts
 shape_of-counts c = c.loop-r.invariant.exact

@@ -1,5 +1,4 @@
 -- `rows::once::count_states` meets its contract. Assumes nothing.
-use Prim.Native.Nat.{◌-◌}
 use lib.ListN.{take}
 use Rattle.model.specs.Image.{tables_of}
 use Rattle.rows.specs.Counts.{Counted}
@@ -7,6 +6,3 @@ use Rattle.rows.proofs.once.count_states.Given as goal
 
 abbrev pub invariant-loop-q : goal.invariant-loop-q
 invariant-loop-q l = Counted l.initial.counts l.counts (take l.q (tables_of l.image).states)
-
-abbrev pub decreases-loop-q : goal.decreases-loop-q
-decreases-loop-q l = l.n - l.q
