@@ -1,56 +1,49 @@
 // The walk of an action's rows (Figure 7): what holds where it ends, and what its jumps carry to each state.
-ghost use Rattle.std.specs.Prelude.{◌≡◌, ◌⊎◌, true, ◌<◌, length};
-ghost use Rattle.model.specs.Image.{none, tables_of};
+ghost use Rattle.std.specs.Prelude.{◌≡◌, true};
+ghost use Rattle.model.specs.Image.{tables_of};
 ghost use Rattle.model.specs.Rows.{branch, arm};
 ghost use Rattle.model.specs.Decode.{action_at};
 ghost use Rattle.masks.specs.Masks.{branches_at, arms_at};
-ghost use Rattle.sets.specs.Flow.{mask_at, flow, flow_branches, flow_arms, Walked, Plain, Ready, ReadyAs, Single, Loop, ReadyList, Jump, PlainRow};
+ghost use Rattle.sets.specs.Flow.{flow, flow_branches, flow_arms, Walked, Plain, Ready, ReadyAs, Single, Loop, ReadyList, Jump, PlainRow};
 
 use image::{code, fields};
-use masks::inside;
+use masks::{Masks, bit, inside, masks_in, without};
 use model::Image;
 
-// A row's mask; nothing for no row.
-fn mask_at(masks: &[u64], row: u16) -> u64
-    requires { (row ≡ none) ⊎ (row < length masks.now) }
-    ensures { result ≡ mask_at masks.now row }
-{
-    if row == Image::NONE {
-        return 0;
-    }
-    masks[row as usize]
+// What every walk reads: an image, the masks of its rows, the mask of all variables. It's handed on by a reference, which
+// takes little of the stack.
+#[derive(Clone, Copy)]
+pub struct Lent<'a> {
+    pub image: &'a [u8],
+    pub i: Image,
+    pub masks: &'a [Masks],
+    pub top: u64,
 }
 
 // 48 to 52: what holds after the action; fine turns false where it reads what isn't defined.
-fn plain(
-    image: &[u8],
-    i: Image,
-    uses: &[u64],
-    defs: &[u64],
-    row: u16,
-    entering: u64,
-    fine: &mut bool,
-) -> u64
-    requires { PlainRow image.now i uses.now defs.now row }
-    ensures { Plain (tables_of image.now) row entering fine.old fine.new result }
+fn plain(lent: &Lent, row: u16, entering: u64, fine: &mut bool) -> u64
+    requires { PlainRow lent.now.image.now lent.now.i lent.now.masks.now row }
+    ensures { Plain (tables_of lent.now.image.now) row entering fine.old fine.new result }
 {
-    let w = fields(image, i, row);
+    let w = fields(lent.image, lent.i, row);
     let c = w.code;
     match c {
         49 => {
-            let after = entering | mask_at(defs, w.a);
-            *fine = *fine & inside(mask_at(uses, w.a), entering);
+            let m = masks_in(lent.masks, w.a);
+            let after = entering | m.defs;
+            *fine = *fine & inside(m.uses, entering);
             after
         }
         50 => {
-            let after = entering | mask_at(defs, w.a);
-            *fine = *fine & inside(mask_at(uses, w.b), after);
+            let after = entering | masks_in(lent.masks, w.a).defs;
+            *fine = *fine & inside(masks_in(lent.masks, w.b).uses, after);
             after
         }
-        51 => entering & !mask_at(defs, w.a),
+        51 => without(entering, masks_in(lent.masks, w.a).defs),
         52 => {
-            let after = entering | mask_at(defs, w.b);
-            *fine = *fine & inside(mask_at(uses, w.b), after);
+            let m = masks_in(lent.masks, w.b);
+            let after = entering | m.defs;
+            *fine = *fine & inside(m.uses, after);
             after
         }
         _ => entering,
@@ -58,136 +51,111 @@ fn plain(
 }
 
 // A jump carries its set to a state, which is added to moved if its set changes; code after it is entered with all variables.
-fn jump(
-    image: &[u8],
-    i: Image,
-    row: u16,
-    entering: u64,
-    top: u64,
-    out: &mut [u64],
-    moved: &mut u64,
-) -> u64
-    requires { Jump image.now i row top out.old }
-    ensures { Walked (flow top entering (action_at (tables_of image.now) row)) out.old out.new moved.old moved.new true true result }
+fn jump(lent: &Lent, row: u16, entering: u64, out: &mut [u64], moved: &mut u64) -> u64
+    requires { Jump lent.now.image.now lent.now.i row lent.now.top out.old }
+    ensures { Walked (flow lent.now.top entering (action_at (tables_of lent.now.image.now) row)) out.old out.new moved.old moved.new true true result }
 {
-    let w = fields(image, i, row);
+    let w = fields(lent.image, lent.i, row);
     let q = w.a as usize;
     let old = out[q];
     let new = old & entering;
     if new == old {
-        return top;
+        return lent.top;
     }
     out[q] = new;
-    *moved = *moved | (1 << w.a);
-    top
+    *moved = *moved | bit(w.a);
+    lent.top
 }
 
 // What the action of a row leaves where it ends. What it carries to each state is met in place, the states whose sets change
-// are added to moved, an error turns fine false. A sequence is followed in a loop, so that only its first part takes stack;
-// a slice read is handed on by a reference to it, which takes half of what the slice takes.
+// are added to moved, an error turns fine false. A sequence is followed in a loop, so that only its first part takes stack.
 #[cycle(walking)]
 pub fn walk(
-    image: &&[u8],
-    i: Image,
-    uses: &&[u64],
-    defs: &&[u64],
+    lent: &Lent,
     row: u16,
     entering: u64,
-    top: u64,
     out: &mut [u64],
     moved: &mut u64,
     fine: &mut bool,
 ) -> u64
-    requires { Ready image.now.now i uses.now.now defs.now.now row top out.old }
-    ensures { Walked (flow top entering (action_at (tables_of image.now.now) row)) out.old out.new moved.old moved.new fine.old fine.new result }
+    requires { Ready lent.now.image.now lent.now.i lent.now.masks.now row lent.now.top out.old }
+    ensures { Walked (flow lent.now.top entering (action_at (tables_of lent.now.image.now) row)) out.old out.new moved.old moved.new fine.old fine.new result }
 {
     let mut here = row;
     let mut set = entering;
-    while code(*image, i, here) == 54 {
-        let w = fields(*image, i, here);
-        set = walk_first(image, i, uses, defs, w.a, set, top, out, moved, fine);
+    while code(lent.image, lent.i, here) == 54 {
+        let w = fields(lent.image, lent.i, here);
+        set = walk_first(lent, w.a, set, out, moved, fine);
         here = w.b;
     }
-    walk_single(image, i, uses, defs, here, set, top, out, moved, fine)
+    walk_single(lent, here, set, out, moved, fine)
 }
 
 // The same of a sequence's first part: one without parts takes no stack.
 #[cycle(walking)]
 fn walk_first(
-    image: &&[u8],
-    i: Image,
-    uses: &&[u64],
-    defs: &&[u64],
+    lent: &Lent,
     row: u16,
     entering: u64,
-    top: u64,
     out: &mut [u64],
     moved: &mut u64,
     fine: &mut bool,
 ) -> u64
-    requires { Ready image.now.now i uses.now.now defs.now.now row top out.old }
-    ensures { Walked (flow top entering (action_at (tables_of image.now.now) row)) out.old out.new moved.old moved.new fine.old fine.new result }
+    requires { Ready lent.now.image.now lent.now.i lent.now.masks.now row lent.now.top out.old }
+    ensures { Walked (flow lent.now.top entering (action_at (tables_of lent.now.image.now) row)) out.old out.new moved.old moved.new fine.old fine.new result }
 {
-    if code(*image, i, row) < 53 {
-        return plain(*image, i, *uses, *defs, row, entering, fine);
+    if code(lent.image, lent.i, row) < 53 {
+        return plain(lent, row, entering, fine);
     }
-    walk(image, i, uses, defs, row, entering, top, out, moved, fine)
+    walk(lent, row, entering, out, moved, fine)
 }
 
 // The same of an action that is no sequence.
 #[cycle(walking)]
 fn walk_single(
-    image: &&[u8],
-    i: Image,
-    uses: &&[u64],
-    defs: &&[u64],
+    lent: &Lent,
     row: u16,
     entering: u64,
-    top: u64,
     out: &mut [u64],
     moved: &mut u64,
     fine: &mut bool,
 ) -> u64
-    requires { ReadyAs Single image.now.now i uses.now.now defs.now.now row top out.old }
-    ensures { Walked (flow top entering (action_at (tables_of image.now.now) row)) out.old out.new moved.old moved.new fine.old fine.new result }
+    requires { ReadyAs Single lent.now.image.now lent.now.i lent.now.masks.now row lent.now.top out.old }
+    ensures { Walked (flow lent.now.top entering (action_at (tables_of lent.now.image.now) row)) out.old out.new moved.old moved.new fine.old fine.new result }
 {
-    let w = fields(*image, i, row);
+    let w = fields(lent.image, lent.i, row);
     let c = w.code;
     match c {
-        53 => jump(*image, i, row, entering, top, out, moved),
-        55 => walk_branches(image, i, uses, defs, w.a, entering, top, out, moved, fine),
+        53 => jump(lent, row, entering, out, moved),
+        55 => walk_branches(lent, w.a, entering, out, moved, fine),
         56 => {
-            let used = mask_at(*uses, w.a) | mask_at(*uses, w.b);
+            let used = masks_in(lent.masks, w.a).uses | masks_in(lent.masks, w.b).uses;
             *fine = *fine & inside(used, entering);
-            walk_arms(image, i, uses, defs, w.b, entering, top, out, moved, fine)
+            walk_arms(lent, w.b, entering, out, moved, fine)
         }
-        59 | 60 => walk_loop(image, i, uses, defs, row, entering, top, out, moved, fine),
-        _ => plain(*image, i, *uses, *defs, row, entering, fine),
+        59 | 60 => walk_loop(lent, row, entering, out, moved, fine),
+        _ => plain(lent, row, entering, fine),
     }
 }
 
 // The same of a list of branches.
 #[cycle(walking)]
 fn walk_branches(
-    image: &&[u8],
-    i: Image,
-    uses: &&[u64],
-    defs: &&[u64],
+    lent: &Lent,
     row: u16,
     entering: u64,
-    top: u64,
     out: &mut [u64],
     moved: &mut u64,
     fine: &mut bool,
 ) -> u64
-    requires { ReadyList branch image.now.now i uses.now.now defs.now.now row top out.old }
-    ensures { Walked (flow_branches top entering (branches_at (tables_of image.now.now) row)) out.old out.new moved.old moved.new fine.old fine.new result }
+    requires { ReadyList branch lent.now.image.now lent.now.i lent.now.masks.now row lent.now.top out.old }
+    ensures { Walked (flow_branches lent.now.top entering (branches_at (tables_of lent.now.image.now) row)) out.old out.new moved.old moved.new fine.old fine.new result }
 {
     let mut here = row;
-    let mut ends = top;
+    let mut ends = lent.top;
     while here != Image::NONE {
-        let w = fields(*image, i, here);
-        ends = ends & walk(image, i, uses, defs, w.a, entering, top, out, moved, fine);
+        let w = fields(lent.image, lent.i, here);
+        ends = ends & walk(lent, w.a, entering, out, moved, fine);
         here = w.b;
     }
     ends
@@ -196,26 +164,22 @@ fn walk_branches(
 // The same of a list of arms, each entered with its pattern's variables.
 #[cycle(walking)]
 fn walk_arms(
-    image: &&[u8],
-    i: Image,
-    uses: &&[u64],
-    defs: &&[u64],
+    lent: &Lent,
     row: u16,
     entering: u64,
-    top: u64,
     out: &mut [u64],
     moved: &mut u64,
     fine: &mut bool,
 ) -> u64
-    requires { ReadyList arm image.now.now i uses.now.now defs.now.now row top out.old }
-    ensures { Walked (flow_arms top entering (arms_at (tables_of image.now.now) row)) out.old out.new moved.old moved.new fine.old fine.new result }
+    requires { ReadyList arm lent.now.image.now lent.now.i lent.now.masks.now row lent.now.top out.old }
+    ensures { Walked (flow_arms lent.now.top entering (arms_at (tables_of lent.now.image.now) row)) out.old out.new moved.old moved.new fine.old fine.new result }
 {
     let mut here = row;
-    let mut ends = top;
+    let mut ends = lent.top;
     while here != Image::NONE {
-        let w = fields(*image, i, here);
-        let entered = entering | mask_at(*defs, w.a);
-        ends = ends & walk(image, i, uses, defs, w.b, entered, top, out, moved, fine);
+        let w = fields(lent.image, lent.i, here);
+        let entered = entering | masks_in(lent.masks, w.a).defs;
+        ends = ends & walk(lent, w.b, entered, out, moved, fine);
         here = w.c;
     }
     ends
@@ -224,24 +188,20 @@ fn walk_arms(
 // The same of a loop, which keeps its entering set. A while's condition defines nothing, a for's range reads nothing.
 #[cycle(walking)]
 fn walk_loop(
-    image: &&[u8],
-    i: Image,
-    uses: &&[u64],
-    defs: &&[u64],
+    lent: &Lent,
     row: u16,
     entering: u64,
-    top: u64,
     out: &mut [u64],
     moved: &mut u64,
     fine: &mut bool,
 ) -> u64
-    requires { ReadyAs Loop image.now.now i uses.now.now defs.now.now row top out.old }
-    ensures { Walked (flow top entering (action_at (tables_of image.now.now) row)) out.old out.new moved.old moved.new fine.old fine.new result }
+    requires { ReadyAs Loop lent.now.image.now lent.now.i lent.now.masks.now row lent.now.top out.old }
+    ensures { Walked (flow lent.now.top entering (action_at (tables_of lent.now.image.now) row)) out.old out.new moved.old moved.new fine.old fine.new result }
 {
-    let w = fields(*image, i, row);
-    let variable = mask_at(*defs, w.a);
-    let kept = entering | variable;
-    let ends = walk(image, i, uses, defs, w.b, kept, top, out, moved, fine);
-    *fine = *fine & inside(mask_at(*uses, w.a), kept) & inside(kept, ends | variable);
+    let w = fields(lent.image, lent.i, row);
+    let head = masks_in(lent.masks, w.a);
+    let kept = entering | head.defs;
+    let ends = walk(lent, w.b, kept, out, moved, fine);
+    *fine = *fine & inside(head.uses, kept) & inside(kept, ends | head.defs);
     kept
 }

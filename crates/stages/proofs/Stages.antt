@@ -15,6 +15,7 @@ use Rattle.model.specs.Calls.{rows_verdict, rules_verdict, image_verdict, flow_v
 use Rattle.model.proofs.Rows.{both_true}
 use Rattle.model.proofs.Order.{after-accepted, after-refused, after-assoc, after_both, unless-true, each_all}
 use Rattle.image.specs.Located.{Located, Rooted, header_verdict}
+use Rattle.masks.specs.declared.Masks.{Masks}
 use Rattle.binding.specs.Bound.{binding_verdict}
 use Rattle.sets.specs.States.{Room, Found as SetsFound}
 use Rattle.image.proofs.Laid.{laid, states-count}
@@ -113,14 +114,14 @@ found-short s room n was e h =
     let f = lt-leb (length (tables_of s).states) room (omega arith) in
     record { verdict = rw f; left = rw f }
 
-pub found-sets : (s : List ℕ) (room n : ℕ) (v : Verdict) (was masks : List ℕ) → n ≡ length (tables_of s).states → n ≤ room
-    → SetsFound (tables_of s) v was masks → Found (tables_of s) room v was masks
+pub found-sets : (s : List ℕ) (room n : ℕ) (v : Verdict) (was sets : List ℕ) → n ≡ length (tables_of s).states → n ≤ room
+    → SetsFound (tables_of s) v was sets → Found (tables_of s) room v was sets
 unfolding found_verdict after leaves
-found-sets s room n v was masks e h f =
+found-sets s room n v was sets e h f =
     let t = le-leb (length (tables_of s).states) room (omega arith) in
     record { verdict = f.verdict ∙ rw t; left = f.first ∙ rw t }
 
-pub to-sets : {s : List ℕ} {i : Image} {uses defs leads masks : List ℕ} → Masked s i uses defs leads masks → Room s i uses defs leads masks
+pub to-sets : {s : List ℕ} {i : Image} {ms : List Masks} {sets : List ℕ} → Masked s i ms sets → Room s i ms sets
 to-sets m =
     record {
       lending = record { rooted = m.rooted; filled = m.filled };
@@ -132,26 +133,26 @@ room-is : (x : Tables) (room : ℕ) → room_verdict x room ≡ after (found_ver
 unfolding room_verdict found_verdict flow_verdict speech_verdict
 room-is x room = sym (after-assoc (room_stage x room) _ _)
 
-pub flow-stays : {x : Tables} (room : ℕ) {v : Verdict} (y : Refusal) {was masks : List ℕ} → Found x room v was masks → v ≡ Err y
-    → Flowed x room v was masks
+pub flow-stays : {x : Tables} (room : ℕ) {v : Verdict} (y : Refusal) {was sets : List ℕ} → Found x room v was sets → v ≡ Err y
+    → Flowed x room v was sets
 flow-stays {x} room y f e =
     record { verdict = e ∙ sym (room-is x room ∙ after-refused (found_verdict x room) _ y (sym f.verdict ∙ e)); left = f.left }
 
-pub flow-speech : {x : Tables} (room : ℕ) {v : Verdict} (r : Verdict) {was masks : List ℕ} → Found x room v was masks → v ≡ Ok tt
-    → r ≡ speech_verdict x → Flowed x room r was masks
+pub flow-speech : {x : Tables} (room : ℕ) {v : Verdict} (r : Verdict) {was sets : List ℕ} → Found x room v was sets → v ≡ Ok tt
+    → r ≡ speech_verdict x → Flowed x room r was sets
 flow-speech {x} room r f e g =
     record { verdict = g ∙ sym (room-is x room ∙ after-accepted (found_verdict x room) _ (sym f.verdict ∙ e)); left = f.left }
 
 -- 8 to 12
-pub trees-stays : (room : ℕ) {x : Tables} {n : ℕ} {v : Verdict} {uses defs leads : List ℕ} (y : Refusal) (was : List ℕ) → Ruled x n v uses defs leads
+pub trees-stays : (room : ℕ) {x : Tables} {n : ℕ} {v : Verdict} {ms : List Masks} (y : Refusal) (was : List ℕ) → Ruled x n v ms
     → v ≡ Err y → Judged x room v was was
 unfolding trees_verdict
 trees-stays room {x} y was f e =
     let k = sym f.verdict ∙ e in
     record { verdict = e ∙ sym (after-refused (rules_verdict x) _ y k); left = sym (leaves_none (rules_verdict x) _ x was y k) }
 
-pub trees-flow : (room : ℕ) {x : Tables} {n : ℕ} {v : Verdict} {uses defs leads : List ℕ} (r : Verdict) {was masks : List ℕ} → Ruled x n v uses defs leads
-    → v ≡ Ok tt → Flowed x room r was masks → Judged x room r was masks
+pub trees-flow : (room : ℕ) {x : Tables} {n : ℕ} {v : Verdict} {ms : List Masks} (r : Verdict) {was sets : List ℕ} → Ruled x n v ms
+    → v ≡ Ok tt → Flowed x room r was sets → Judged x room r was sets
 unfolding trees_verdict
 trees-flow room {x} r {was} f e g =
     let k = sym f.verdict ∙ e in
@@ -177,8 +178,8 @@ judge-stays s room y was f e =
       left = sym (ap (λ (u : Verdict). leaves u (tables_of s) was) (after-image s _) ∙ leaves_none (tables_verdict s) _ (tables_of s) was y k);
     }
 
-pub judge-trees : (s : List ℕ) (room : ℕ) {v : Verdict} (r : Verdict) {was masks : List ℕ} → v ≡ tables_verdict s → v ≡ Ok tt
-    → Judged (tables_of s) room r was masks → Checks s room r was masks
+pub judge-trees : (s : List ℕ) (room : ℕ) {v : Verdict} (r : Verdict) {was sets : List ℕ} → v ≡ tables_verdict s → v ≡ Ok tt
+    → Judged (tables_of s) room r was sets → Checks s room r was sets
 judge-trees s room r {was} f e g =
     let k = sym f ∙ e in
     record {
@@ -227,7 +228,7 @@ pub trailer-there : (s : List ℕ) {v : Verdict} → v ≡ tables_verdict s → 
 unfolding tables_verdict
 trailer-there s f e = trailer-inside s (after_both (header_verdict s) (rows_verdict (tables_of s)) (sym f ∙ e)).0
 
-pub to-sized : {s : List ℕ} {i : Image} {masks : List ℕ} → Rooted s i → 64 ≤ length masks → Sized s i 2048 masks
+pub to-sized : {s : List ℕ} {i : Image} {sets : List ℕ} → Rooted s i → 64 ≤ length sets → Sized s i 2048 sets
 to-sized r m = record { rooted = r; rows = (laid r.formed.located).rows_most; room = m }
 
 pub rooted-there : (s : List ℕ) (i : Image) {v : Verdict} → i ≡ trailer_of s → v ≡ tables_verdict s → v ≡ Ok tt → Rooted s i

@@ -10,12 +10,15 @@ ghost use Rattle.model.specs.Calls.{rules_verdict, image_verdict};
 use binding::binding_verdict;
 use header::header;
 use image::{row_count, state_count, trailer};
-use masks::fill;
+use masks::{Masks, fill};
 use model::{Image, Refusal};
 use rows::rows_verdict;
 use sets::sets_verdict;
 use speech::speech_verdict;
 use typing::typing_verdict;
+
+// Rows of the largest image.
+const ROWS: usize = Image::ROWS as usize;
 
 // 1 to 7: trailer, tables, rows.
 fn tables(image: &[u8]) -> Result<(), Refusal>
@@ -32,21 +35,15 @@ fn tables(image: &[u8]) -> Result<(), Refusal>
 }
 
 // 8 and 9, with the masks of rows that the later stages read.
-fn rules(
-    image: &[u8],
-    i: Image,
-    uses: &mut [u64],
-    defs: &mut [u64],
-    leads: &mut [u64],
-) -> Result<(), Refusal>
-    requires { Lent image.now i uses.old defs.old leads.old }
-    ensures { Ruled (tables_of image.now) (row_count i) result uses.new defs.new leads.new }
+fn rules(image: &[u8], i: Image, masks: &mut [Masks]) -> Result<(), Refusal>
+    requires { Lent image.now i masks.old }
+    ensures { Ruled (tables_of image.now) (row_count i) result masks.new }
 {
-    fill(image, i, uses, defs, leads);
+    fill(image, i, masks);
     let v = typing_verdict(image, i);
     match v {
         Err(_) => v,
-        Ok(()) => binding_verdict(image, i, uses, defs),
+        Ok(()) => binding_verdict(image, i, masks),
     }
 }
 
@@ -55,18 +52,16 @@ fn found(
     image: &[u8],
     i: Image,
     room: usize,
-    uses: &[u64],
-    defs: &[u64],
-    leads: &[u64],
-    masks: &mut [u64],
+    masks: &[Masks],
+    sets: &mut [u64],
 ) -> Result<(), Refusal>
-    requires { Masked image.now i uses.now defs.now leads.now masks.old }
-    ensures { Found (tables_of image.now) room result masks.old masks.new }
+    requires { Masked image.now i masks.now sets.old }
+    ensures { Found (tables_of image.now) room result sets.old sets.new }
 {
     if room < state_count(image, i) as usize {
         return Err(Refusal::SetsShort);
     }
-    sets_verdict(image, i, uses, defs, leads, masks)
+    sets_verdict(image, i, masks, sets)
 }
 
 // 10 to 12: the sets, then speech.
@@ -74,16 +69,14 @@ fn flow(
     image: &[u8],
     i: Image,
     room: usize,
-    uses: &[u64],
-    defs: &[u64],
-    leads: &[u64],
-    masks: &mut [u64],
+    masks: &[Masks],
+    sets: &mut [u64],
     ways: &mut [u8],
 ) -> Result<(), Refusal>
-    requires { Flowing image.now i uses.now defs.now leads.now masks.old ways.old }
-    ensures { Flowed (tables_of image.now) room result masks.old masks.new }
+    requires { Flowing image.now i masks.now sets.old ways.old }
+    ensures { Flowed (tables_of image.now) room result sets.old sets.new }
 {
-    let v = found(image, i, room, uses, defs, leads, masks);
+    let v = found(image, i, room, masks, sets);
     match v {
         Err(_) => v,
         Ok(()) => speech_verdict(image, i, ways),
@@ -95,134 +88,89 @@ fn trees(
     image: &[u8],
     i: Image,
     room: usize,
-    uses: &mut [u64],
-    defs: &mut [u64],
-    leads: &mut [u64],
-    masks: &mut [u64],
+    masks: &mut [Masks],
+    sets: &mut [u64],
     ways: &mut [u8],
 ) -> Result<(), Refusal>
-    requires { Treeing image.now i uses.old defs.old leads.old masks.old ways.old }
-    ensures { Judged (tables_of image.now) room result masks.old masks.new }
+    requires { Treeing image.now i masks.old sets.old ways.old }
+    ensures { Judged (tables_of image.now) room result sets.old sets.new }
 {
-    let v = rules(image, i, uses, defs, leads);
+    let v = rules(image, i, masks);
     match v {
         Err(_) => v,
-        Ok(()) => flow(image, i, room, uses, defs, leads, masks, ways),
+        Ok(()) => flow(image, i, room, masks, sets, ways),
     }
 }
 
-// The same on scratch for 128 rows, for 512 and for any image: to clear it costs time, and most images are small.
-fn small(image: &[u8], i: Image, room: usize, masks: &mut [u64]) -> Result<(), Refusal>
-    requires { Sized image.now i 128 masks.old }
-    ensures { Judged (tables_of image.now) room result masks.old masks.new }
+// The same on scratch for N rows.
+fn judged_on<const N: usize>(
+    image: &[u8],
+    i: Image,
+    room: usize,
+    sets: &mut [u64],
+) -> Result<(), Refusal>
+    requires sized { Sized image.now i N sets.old }
+    requires few { N ≤ 2048 }
+    ensures { Judged (tables_of image.now) room result sets.old sets.new }
 {
-    let mut uses = [0u64; 128];
-    let mut defs = [0u64; 128];
-    let mut leads = [0u64; 128];
-    let mut ways = [0u8; 128];
-    trees(
-        image, i, room, &mut uses, &mut defs, &mut leads, masks, &mut ways,
-    )
+    let mut masks = [Masks::NOTHING; N];
+    let mut ways = [0u8; N];
+    trees(image, i, room, &mut masks, sets, &mut ways)
 }
 
-fn medium(image: &[u8], i: Image, room: usize, masks: &mut [u64]) -> Result<(), Refusal>
-    requires { Sized image.now i 512 masks.old }
-    ensures { Judged (tables_of image.now) room result masks.old masks.new }
-{
-    let mut uses = [0u64; 512];
-    let mut defs = [0u64; 512];
-    let mut leads = [0u64; 512];
-    let mut ways = [0u8; 512];
-    trees(
-        image, i, room, &mut uses, &mut defs, &mut leads, masks, &mut ways,
-    )
-}
-
-fn large(image: &[u8], i: Image, room: usize, masks: &mut [u64]) -> Result<(), Refusal>
-    requires { Sized image.now i 2048 masks.old }
-    ensures { Judged (tables_of image.now) room result masks.old masks.new }
-{
-    let mut uses = [0u64; Image::ROWS as usize];
-    let mut defs = [0u64; Image::ROWS as usize];
-    let mut leads = [0u64; Image::ROWS as usize];
-    let mut ways = [0u8; Image::ROWS as usize];
-    trees(
-        image, i, room, &mut uses, &mut defs, &mut leads, masks, &mut ways,
-    )
-}
-
-fn sized(image: &[u8], i: Image, room: usize, masks: &mut [u64]) -> Result<(), Refusal>
-    requires { Sized image.now i 2048 masks.old }
-    ensures { Judged (tables_of image.now) room result masks.old masks.new }
+// The same on scratch for 128 rows, for 512 or for any image: to clear it costs time, and most images are small.
+fn sized(image: &[u8], i: Image, room: usize, sets: &mut [u64]) -> Result<(), Refusal>
+    requires { Sized image.now i 2048 sets.old }
+    ensures { Judged (tables_of image.now) room result sets.old sets.new }
 {
     let n = row_count(image, i);
     if n <= 128 {
-        return small(image, i, room, masks);
+        return judged_on::<128>(image, i, room, sets);
     }
     if n <= 512 {
-        return medium(image, i, room, masks);
+        return judged_on::<512>(image, i, room, sets);
     }
-    large(image, i, room, masks)
+    judged_on::<ROWS>(image, i, room, sets)
 }
 
-// 1 to 12, with room for so many sets, which are left in the masks.
-pub fn judge(image: &[u8], room: usize, masks: &mut [u64]) -> Result<(), Refusal>
-    requires { 64 ≤ length masks.old }
-    ensures { Checks image.now room result masks.old masks.new }
+// 1 to 12, with room for so many sets, which are left in the first entries lent.
+pub fn judge(image: &[u8], room: usize, sets: &mut [u64]) -> Result<(), Refusal>
+    requires { 64 ≤ length sets.old }
+    ensures { Checks image.now room result sets.old sets.new }
 {
     let v = tables(image);
     match v {
         Err(_) => v,
         Ok(()) => {
             let i = trailer(image);
-            sized(image, i, room, masks)
+            sized(image, i, room, sets)
         }
     }
 }
 
-// 8 and 9 on scratch for 128 rows, for 512 and for any image.
-fn rules_small(image: &[u8], i: Image) -> Result<(), Refusal>
-    requires { Ruling image.now i 128 }
+// 8 and 9 on scratch for N rows.
+fn rules_on<const N: usize>(image: &[u8], i: Image) -> Result<(), Refusal>
+    requires ruling { Ruling image.now i N }
+    requires few { N ≤ 2048 }
     ensures { result ≡ rules_verdict (tables_of image.now) }
 {
-    let mut uses = [0u64; 128];
-    let mut defs = [0u64; 128];
-    let mut leads = [0u64; 128];
-    rules(image, i, &mut uses, &mut defs, &mut leads)
+    let mut masks = [Masks::NOTHING; N];
+    rules(image, i, &mut masks)
 }
 
-fn rules_medium(image: &[u8], i: Image) -> Result<(), Refusal>
-    requires { Ruling image.now i 512 }
-    ensures { result ≡ rules_verdict (tables_of image.now) }
-{
-    let mut uses = [0u64; 512];
-    let mut defs = [0u64; 512];
-    let mut leads = [0u64; 512];
-    rules(image, i, &mut uses, &mut defs, &mut leads)
-}
-
-fn rules_large(image: &[u8], i: Image) -> Result<(), Refusal>
-    requires { Ruling image.now i 2048 }
-    ensures { result ≡ rules_verdict (tables_of image.now) }
-{
-    let mut uses = [0u64; Image::ROWS as usize];
-    let mut defs = [0u64; Image::ROWS as usize];
-    let mut leads = [0u64; Image::ROWS as usize];
-    rules(image, i, &mut uses, &mut defs, &mut leads)
-}
-
+// 8 and 9 on scratch for 128 rows, for 512 or for any image.
 fn rules_sized(image: &[u8], i: Image) -> Result<(), Refusal>
     requires { Ruling image.now i 2048 }
     ensures { result ≡ rules_verdict (tables_of image.now) }
 {
     let n = row_count(image, i);
     if n <= 128 {
-        return rules_small(image, i);
+        return rules_on::<128>(image, i);
     }
     if n <= 512 {
-        return rules_medium(image, i);
+        return rules_on::<512>(image, i);
     }
-    rules_large(image, i)
+    rules_on::<ROWS>(image, i)
 }
 
 // 1 to 9: what every call refuses first.

@@ -4,7 +4,7 @@ use Rattle.binding.proofs.RowRules.{rule-row, rule-condition, rule-other, rule-v
 use Rattle.binding.proofs.bound.Goals as goal
 
 pub returns-then-r-i : goal.returns-then-r-i
-returns-then-r-i c = rule-condition c.requires _ _ c.if-r-i.true c.mask.ensures c.inside.ensures
+returns-then-r-i c = rule-condition c.requires _ _ c.if-r-i.true c.masks_in.ensures c.inside.ensures
 
 pub fields-w-requires : goal.fields-w-requires
 fields-w-requires c = rule-row c.requires
@@ -19,7 +19,7 @@ pub returns-in-52 : goal.returns-in-52
 returns-in-52 c = rule-other c.requires _ c.fields-w.ensures _ c.if-r-i.false (c.bound_offers.ensures ∙ at-communicate _ _ c.in-52.is)
 
 pub returns-in-60 : goal.returns-in-60
-returns-in-60 c = rule-other c.requires _ c.fields-w.ensures _ c.if-r-i.false (rule-for c.requires _ c.fields-w.ensures _ _ _ c.in-60.is c.mask-in-60.ensures c.mask-in-60-2.ensures c.apart.ensures)
+returns-in-60 c = rule-other c.requires _ c.fields-w.ensures _ c.if-r-i.false (rule-for c.requires _ c.fields-w.ensures _ _ _ c.in-60.is c.masks_in-in-60.ensures c.masks_in-in-60-2.ensures c.apart.ensures)
 
 pub returns-in-49-to-51 : goal.returns-in-49-to-51
 returns-in-49-to-51 c = rule-other c.requires _ c.fields-w.ensures _ c.if-r-i.false (c.distinct_items.ensures ∙ at-vector _ _ c.in-49-to-51.if-code-lt49-own.false c.in-49-to-51.if-code-lt52-own.true)

@@ -14,26 +14,26 @@ lowest-s-requires c = omega arith
 pub state_row-row-requires : goal.state_row-row-requires
 state_row-row-requires c = due-located c.requires.given c.loop-due.invariant c.lowest-s.ensures
 
-pub bounds-leads-row : goal.bounds-leads-row
-bounds-leads-row c = due-lead c.requires.given c.loop-due.invariant c.lowest-s.ensures c.state_row-row.ensures
+pub bounds-lent-row : goal.bounds-lent-row
+bounds-lent-row c = due-lead c.requires.given c.loop-due.invariant c.lowest-s.ensures c.state_row-row.ensures
 
 pub bounds-sets-s : goal.bounds-sets-s
 bounds-sets-s c = due-inside c.requires.given c.loop-due.invariant c.lowest-s.ensures
 
-pub walk-bit-requires : goal.walk-bit-requires
-walk-bit-requires c = due-ready c.requires.given c.loop-due.invariant c.lowest-s.ensures c.state_row-row.ensures
+pub walk-requires : goal.walk-requires
+walk-requires c = due-ready c.requires.given c.loop-due.invariant c.lowest-s.ensures c.state_row-row.ensures
 
-pub overflow_shl-bit : goal.overflow_shl-bit
-overflow_shl-bit c = c.lowest-s.ensures.small
+pub bit-here-requires : goal.bit-here-requires
+bit-here-requires c = c.lowest-s.ensures.small
 
 pub mark-wrong-requires : goal.mark-wrong-requires
 mark-wrong-requires c = c.lowest-s.ensures.small
 
 pub loop-due-smaller : goal.loop-due-smaller
-loop-due-smaller c = walk-less c.requires.given c.loop-due.invariant c.lowest-s.ensures c.state_row-row.ensures (c.shared_slice_known-in-loop-due-1.given c.state_row-row.result).fits c.walk-bit.ensures
+loop-due-smaller c = walk-less c.requires.given c.loop-due.invariant c.lowest-s.ensures c.state_row-row.ensures c.bit-here.ensures c.without.ensures c.without-in-loop-due.ensures c.walk.ensures
 
 pub loop-due-preserved : goal.loop-due-preserved
-loop-due-preserved c = walk-on c.requires.given c.loop-due.invariant c.lowest-s.ensures c.state_row-row.ensures (c.shared_slice_known-in-loop-due-1.given c.state_row-row.result).fits c.walk-bit.ensures c.mark-wrong.ensures
+loop-due-preserved c = walk-on c.requires.given c.loop-due.invariant c.lowest-s.ensures c.state_row-row.ensures c.bit-here.ensures c.without.ensures c.without-in-loop-due.ensures c.walk.ensures c.mark-wrong.ensures
 
 pub shape_of-sets : goal.shape_of-sets
 shape_of-sets c = c.loop-due.invariant.stage.size ∙ sym c.requires.stage.size

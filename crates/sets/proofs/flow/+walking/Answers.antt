@@ -4,8 +4,8 @@ use mathlib.Core.Path.{sym, ◌∙◌}
 use native.Mathlib.Omega.{arith}
 use Rattle.model.specs.Rows.{action, branch, arm}
 use Rattle.sets.proofs.Rows.{row-of-kind}
-use Rattle.sets.proofs.Steps.{do-plain, do-fine, walking-all, first-ready, first-low, second-low, walking_on, walking-last, loop-masks, body-ready, body-low, do-loop, as-jump, as-loop, as_plain, branches-ready, branches-low, do-select, arms-ready, arms-low, case-masks, do-case}
-use Rattle.sets.proofs.Listing.{here-kind, branches-all, branch-ready, branch-low, branch_less, branches-on, branches-last, arms-all, arm-masks, arm-ready, arm_low, arm-less, arms-on, arms_last}
+use Rattle.sets.proofs.Steps.{do-plain, do-fine, walking-all, first-ready, first-low, second-low, walking_on, walking-last, body-ready, body-low, do-loop, as-jump, as-loop, as_plain, branches-ready, branches-low, do-select, arms-ready, arms-low, do-case}
+use Rattle.sets.proofs.Listing.{here-kind, branches-all, branch-ready, branch-low, branch_less, branches-on, branches-last, arms-all, arm-ready, arm_low, arm-less, arms-on, arms_last}
 use Rattle.sets.proofs.flow.+walking.Goals as goal
 use Rattle.sets.proofs.flow.+walking.Goals.{walk_single-in_default-via-then-c-lt59, walk_single-in_default-via-else-c-lt59+else-c-lt61}
 
@@ -42,9 +42,6 @@ walk_arms-loop-here-init t c = arms-all _ c.requires
 pub walk_arms-fields-w-requires : goal.walk_arms-fields-w-requires
 walk_arms-fields-w-requires t c = row-of-kind arm _ c.loop-here.invariant.ready.lent.formed (omega arith) (here-kind _ c.loop-here.invariant c.loop-here-test.true)
 
-pub walk_arms-mask_at-requires : goal.walk_arms-mask_at-requires
-walk_arms-mask_at-requires t c = arm-masks _ c.loop-here.invariant c.fields-w.ensures c.loop-here-test.true
-
 pub walk_arms-walk-ends-requires : goal.walk_arms-walk-ends-requires
 walk_arms-walk-ends-requires t c = (omega (arith, c.decreases, arm_low _ c.loop-here.invariant c.fields-w.ensures c.loop-here-test.true), arm-ready _ c.loop-here.invariant c.fields-w.ensures c.loop-here-test.true)
 
@@ -52,7 +49,7 @@ pub walk_arms-loop-here-smaller : goal.walk_arms-loop-here-smaller
 walk_arms-loop-here-smaller t c = arm-less _ c.loop-here.invariant c.fields-w.ensures c.loop-here-test.true
 
 pub walk_arms-loop-here-preserved : goal.walk_arms-loop-here-preserved
-walk_arms-loop-here-preserved t c = arms-on _ c.loop-here.invariant c.fields-w.ensures c.loop-here-test.true _ c.mask_at.ensures c.walk-ends.ensures
+walk_arms-loop-here-preserved t c = arms-on _ c.loop-here.invariant c.fields-w.ensures c.loop-here-test.true _ c.masks_in.ensures c.walk-ends.ensures
 
 pub walk_arms-shape_of-out : goal.walk_arms-shape_of-out
 walk_arms-shape_of-out t c = c.loop-here.invariant.rest.size
@@ -102,20 +99,14 @@ walk_first-returns t c = c.walk.ensures
 pub walk_loop-fields-w-requires : goal.walk_loop-fields-w-requires
 walk_loop-fields-w-requires t c = row-of-kind action _ c.requires.ready.lent.formed (omega arith) c.requires.ready.kind
 
-pub walk_loop-mask_at-variable-requires : goal.walk_loop-mask_at-variable-requires
-walk_loop-mask_at-variable-requires t c = (loop-masks c.requires c.fields-w.ensures).1
-
 pub walk_loop-walk-ends-requires : goal.walk_loop-walk-ends-requires
 walk_loop-walk-ends-requires t c = (omega (arith, c.decreases, body-low c.requires c.fields-w.ensures), body-ready c.requires c.fields-w.ensures)
-
-pub walk_loop-mask_at-requires : goal.walk_loop-mask_at-requires
-walk_loop-mask_at-requires t c = (loop-masks c.requires c.fields-w.ensures).0
 
 pub walk_loop-shape_of-out : goal.walk_loop-shape_of-out
 walk_loop-shape_of-out t c = c.walk-ends.auto.out
 
 pub walk_loop-returns : goal.walk_loop-returns
-walk_loop-returns t c = do-loop c.requires c.fields-w.ensures _ _ _ _ _ c.mask_at-variable.ensures c.mask_at.ensures c.walk-ends.ensures c.inside.ensures c.inside-2.ensures
+walk_loop-returns t c = do-loop c.requires c.fields-w.ensures _ _ _ _ c.masks_in-head.ensures c.walk-ends.ensures c.inside.ensures c.inside-2.ensures
 
 pub walk_single-fields-w-requires : goal.walk_single-fields-w-requires
 walk_single-fields-w-requires t c = row-of-kind action _ c.requires.ready.lent.formed (omega arith) c.requires.ready.kind
@@ -128,12 +119,6 @@ walk_single-walk_branches-requires t c = (
   omega (arith, c.decreases, branches-low c.requires c.fields-w.ensures c.in-55.is),
   branches-ready c.requires c.fields-w.ensures c.in-55.is,
 )
-
-pub walk_single-mask_at-requires : goal.walk_single-mask_at-requires
-walk_single-mask_at-requires t c = (case-masks c.requires c.fields-w.ensures c.in-56.is).0
-
-pub walk_single-mask_at-requires-in-56 : goal.walk_single-mask_at-requires-in-56
-walk_single-mask_at-requires-in-56 t c = (case-masks c.requires c.fields-w.ensures c.in-56.is).1
 
 pub walk_single-walk_arms-requires : goal.walk_single-walk_arms-requires
 walk_single-walk_arms-requires t c = (
@@ -164,7 +149,7 @@ pub walk_single-shape_of-out-in-56 : goal.walk_single-shape_of-out-in-56
 walk_single-shape_of-out-in-56 t c = c.walk_arms.auto.out
 
 pub walk_single-returns-in-56 : goal.walk_single-returns-in-56
-walk_single-returns-in-56 t c = do-case c.requires c.fields-w.ensures c.in-56.is _ _ _ _ c.walk_arms.ensures c.mask_at.ensures c.mask_at-in-56.ensures c.inside.ensures
+walk_single-returns-in-56 t c = do-case c.requires c.fields-w.ensures c.in-56.is _ _ _ _ c.walk_arms.ensures c.masks_in.ensures c.masks_in-in-56.ensures c.inside.ensures
 
 pub walk_single-shape_of-out-in-59 : goal.walk_single-shape_of-out-in-59
 walk_single-shape_of-out-in-59 t c = c.walk_loop.auto.out
