@@ -5,6 +5,7 @@ ghost use Rattle.std.specs.Prelude.{◌≡◌, true, ◌<◌};
 ghost use Rattle.model.specs.Image.{tables_of, state_count};
 ghost use Rattle.image.specs.Located.{Located, StateOf};
 ghost use Rattle.text.specs.Emit.{page, Emitted};
+ghost use Rattle.text.specs.Written.{Written};
 ghost use Rattle.notation.specs.Texts.{each};
 ghost use Rattle.notation.specs.Whole.{pointless};
 ghost use Rattle.listing.specs.Gave.{Gave};
@@ -21,7 +22,7 @@ use notation::tables::put_table;
 use notation::whole::{pointing, put_refusal, put_said};
 use notation::{Style, row_fields};
 use ntif::check;
-use text::emit;
+use text::Page;
 
 // What can have been said on the ways that lead to a row: on these gates; or nothing.
 #[derive(Clone, Copy)]
@@ -38,13 +39,6 @@ pub struct Parts {
     pub kind: u8,
 }
 
-// Where the text ends after a row's arrows, and what is said after the row.
-#[derive(Clone, Copy)]
-pub struct Walk {
-    pub at: usize,
-    pub said: Said,
-}
-
 fn plain_style() -> Style
     ensures { result ≡ pointless true }
 {
@@ -52,6 +46,16 @@ fn plain_style() -> Style
         place: Image::NONE,
         state: Image::NONE,
         graph: true,
+    }
+}
+
+// Where no way leads.
+fn nowhere() -> Said
+    ensures { result ≡ nowhere }
+{
+    Said {
+        gates: 0,
+        quiet: false,
     }
 }
 
@@ -92,10 +96,7 @@ fn spoken(m: Said, g: u16) -> Said
             quiet: false,
         };
     }
-    Said {
-        gates: 0,
-        quiet: false,
-    }
+    nowhere()
 }
 
 fn parts_at(first: u16, second: u16, kind: u8) -> Parts
@@ -131,10 +132,7 @@ fn after_leaf(w: Fields, m: Said) -> Said
         return spoken(m, w.a);
     }
     if w.code == 53 {
-        return Said {
-            gates: 0,
-            quiet: false,
-        };
+        return nowhere();
     }
     m
 }
@@ -172,159 +170,122 @@ fn gate_line(g: u16) -> u32
     SPOKEN_GATE
 }
 
-fn put_gate(gates: u64, g: u16, text: &mut [u8], at: usize) -> usize
+fn put_gate(gates: u64, g: u16, page: &mut Page<'_>)
     requires { g < 64 }
-    ensures { Emitted (gate_text gates g) (page at text.old) (page result text.new) }
+    ensures { Written (gate_text gates g) page.old page.new }
 {
     let one = bit(g);
     if inside(one, gates) {
-        let k = gate_line(g);
-        let st = plain_style();
-        return put_said(st, k, g, 0, 0, 0, text, at);
+        put_said(plain_style(), gate_line(g), g, 0, 0, 0, page);
     }
-    at
 }
 
-fn put_gates(gates: u64, text: &mut [u8], at: usize) -> usize
-    ensures { Emitted (each (gate_text gates) 64) (page at text.old) (page result text.new) }
+fn put_gates(gates: u64, page: &mut Page<'_>)
+    ensures { Written (each (gate_text gates) 64) page.old page.new }
 {
-    let mut end = at;
-    let mut g = 0;
-    while g < 64 {
-        end = put_gate(gates, g, text, end);
-        g += 1;
+    for g in 0..64 {
+        put_gate(gates, g, page);
     }
-    end
 }
 
-fn put_quiet(quiet: bool, text: &mut [u8], at: usize) -> usize
-    ensures { Emitted (quiet_text quiet) (page at text.old) (page result text.new) }
+fn put_quiet(quiet: bool, page: &mut Page<'_>)
+    ensures { Written (quiet_text quiet) page.old page.new }
 {
     if quiet {
-        return emit(text, at, b"quiet");
+        page.emit(b"quiet");
     }
-    at
 }
 
 // The gates of a label, or that nothing is said.
-fn put_label(m: Said, text: &mut [u8], at: usize) -> usize
-    ensures { Emitted (label_text m) (page at text.old) (page result text.new) }
+fn put_label(m: Said, page: &mut Page<'_>)
+    ensures { Written (label_text m) page.old page.new }
 {
     if reached(m) {
-        let a = put_quiet(m.quiet, text, at);
-        return put_gates(m.gates, text, a);
+        put_quiet(m.quiet, page);
+        put_gates(m.gates, page);
+    } else {
+        page.emit(b"dead");
     }
-    emit(text, at, b"dead")
 }
 
 // The arrow of a jump.
-fn put_arrow(q: u16, w: Fields, m: Said, text: &mut [u8], at: usize) -> usize
-    ensures { Emitted (arrow_text q w m) (page at text.old) (page result text.new) }
+fn put_arrow(q: u16, w: Fields, m: Said, page: &mut Page<'_>)
+    ensures { Written (arrow_text q w m) page.old page.new }
 {
     if w.code == 53 {
         let st = plain_style();
-        let a = put_said(st, ARROW, q, w.a, 0, 0, text, at);
-        let b = put_label(m, text, a);
-        return put_said(st, LABEL_END, 0, 0, 0, 0, text, b);
-    }
-    at
-}
-
-fn stopped(at: usize) -> Walk
-    ensures { result ≡ record { at = at; said = nowhere } }
-{
-    Walk {
-        at,
-        said: Said {
-            gates: 0,
-            quiet: false,
-        },
+        put_said(st, ARROW, q, w.a, 0, 0, page);
+        put_label(m, page);
+        put_said(st, LABEL_END, 0, 0, 0, 0, page);
     }
 }
 
-// The arrows of a row in the action of state q, entered with m said.
-fn walk_row(
-    image: &[u8],
-    i: Image,
-    q: u16,
-    r: u16,
-    m: Said,
-    left: u16,
-    text: &mut [u8],
-    at: usize,
-) -> Walk
+// The arrows of a row in the action of state q, entered with m said, and what is said after the row.
+fn walk_row(image: &[u8], i: Image, q: u16, r: u16, m: Said, left: u16, page: &mut Page<'_>) -> Said
     requires { Located image.now i }
-    ensures { Walked left (tables_of image.now) q r m (page at text.old) (page result.at text.new) result.said }
+    ensures { Walked left (tables_of image.now) q r m page.old page.new result }
 {
     if left == 0 {
-        return stopped(at);
+        return nowhere();
     }
     if r == Image::NONE {
-        return stopped(at);
+        return nowhere();
     }
     let w = row_fields(image, i, r);
     let p = parts_of(w);
-    let a = put_arrow(q, w, m, text, at);
-    let x = walk_row(image, i, q, p.first, m, left - 1, text, a);
-    let one = x.said;
+    put_arrow(q, w, m, page);
+    let one = walk_row(image, i, q, p.first, m, left - 1, page);
     let n = enters(p.kind, m, one);
-    let y = walk_row(image, i, q, p.second, n, left - 1, text, x.at);
-    let two = y.said;
-    let s = leaves(p.kind, w, m, one, two);
-    Walk { at: y.at, said: s }
+    let two = walk_row(image, i, q, p.second, n, left - 1, page);
+    leaves(p.kind, w, m, one, two)
 }
 
-fn put_state_arrows(image: &[u8], i: Image, q: u16, text: &mut [u8], at: usize) -> usize
+fn put_state_arrows(image: &[u8], i: Image, q: u16, page: &mut Page<'_>)
     requires { StateOf image.now i q }
-    ensures { Emitted (state_arrows (tables_of image.now) q) (page at text.old) (page result text.new) }
+    ensures { Written (state_arrows (tables_of image.now) q) page.old page.new }
 {
     let row = state_row(image, i, q);
     let m = Said {
         gates: 0,
         quiet: true,
     };
-    let x = walk_row(image, i, q, row, m, Image::ROWS, text, at);
-    x.at
+    walk_row(image, i, q, row, m, Image::ROWS, page);
 }
 
-fn put_arrows(image: &[u8], i: Image, text: &mut [u8], at: usize) -> usize
+fn put_arrows(image: &[u8], i: Image, page: &mut Page<'_>)
     requires { Located image.now i }
-    ensures { Emitted (each (state_arrows (tables_of image.now)) (state_count i)) (page at text.old) (page result text.new) }
+    ensures { Written (each (state_arrows (tables_of image.now)) (state_count i)) page.old page.new }
 {
     let n = (i.rows - i.states) / 2;
-    let mut end = at;
-    let mut q = 0;
-    while q < n {
-        end = put_state_arrows(image, i, q, text, end);
-        q += 1;
+    for q in 0..n {
+        put_state_arrows(image, i, q, page);
     }
-    end
 }
 
-fn put_graph(image: &[u8], i: Image, st: Style, text: &mut [u8], at: usize) -> usize
+fn put_graph(image: &[u8], i: Image, st: Style, page: &mut Page<'_>)
     requires { Located image.now i }
-    ensures { Emitted (graph_text (tables_of image.now) i st) (page at text.old) (page result text.new) }
+    ensures { Written (graph_text (tables_of image.now) i st) page.old page.new }
 {
-    let a = put_said(st, GRAPH, 0, 0, 0, 0, text, at);
-    let b = put_table(image, i, st, BOX, text, a);
-    let c = put_arrows(image, i, text, b);
-    put_said(st, GRAPH_END, 0, 0, 0, 0, text, c)
+    put_said(st, GRAPH, 0, 0, 0, 0, page);
+    put_table(image, i, st, BOX, page);
+    put_arrows(image, i, page);
+    put_said(st, GRAPH_END, 0, 0, 0, 0, page);
 }
 
-fn put_refused(y: Refusal, st: Style, text: &mut [u8], at: usize) -> usize
-    ensures { Emitted (refused_text st y) (page at text.old) (page result text.new) }
+fn put_refused(y: Refusal, st: Style, page: &mut Page<'_>)
+    ensures { Written (refused_text st y) page.old page.new }
 {
-    let a = put_said(st, GRAPH, 0, 0, 0, 0, text, at);
-    let b = put_said(st, REFUSED_BOX, 0, 0, 0, 0, text, a);
-    let c = put_refusal(y, st, text, b);
-    let d = put_said(st, LABEL_END, 0, 0, 0, 0, text, c);
-    put_said(st, GRAPH_END, 0, 0, 0, 0, text, d)
+    put_said(st, GRAPH, 0, 0, 0, 0, page);
+    put_said(st, REFUSED_BOX, 0, 0, 0, 0, page);
+    put_refusal(y, st, page);
+    put_said(st, LABEL_END, 0, 0, 0, 0, page);
+    put_said(st, GRAPH_END, 0, 0, 0, 0, page);
 }
 
 // The graph, by what check gave with room for 64 sets.
-fn put_drawn(image: &[u8], v: Result<(), Refusal>, sets: &[u64], text: &mut [u8]) -> usize
+fn put_drawn(image: &[u8], v: Result<(), Refusal>, sets: &[u64], page: &mut Page<'_>)
     requires { Gave image.now v sets.now }
-    ensures { Emitted (drawn image.now) (page 0 text.old) (page result text.new) }
+    ensures { Written (drawn image.now) page.old page.new }
 {
     match v {
         Err(y) => {
@@ -332,15 +293,14 @@ fn put_drawn(image: &[u8], v: Result<(), Refusal>, sets: &[u64], text: &mut [u8]
             let p = y.place();
             let st = pointing(n, p, true);
             if n < 8 {
-                return put_refused(y, st, text, 0);
+                return put_refused(y, st, page);
             }
             let i = trailer(image);
-            put_graph(image, i, st, text, 0)
+            put_graph(image, i, st, page);
         }
         Ok(()) => {
             let i = trailer(image);
-            let st = plain_style();
-            put_graph(image, i, st, text, 0)
+            put_graph(image, i, plain_style(), page);
         }
     }
 }
@@ -351,5 +311,7 @@ pub fn draw(image: &[u8], text: &mut [u8]) -> usize
 {
     let mut sets = [0u64; Image::STATES as usize];
     let v = check(image, &mut sets);
-    put_drawn(image, v, &sets, text)
+    let mut page = Page::new(text);
+    put_drawn(image, v, &sets, &mut page);
+    page.end
 }

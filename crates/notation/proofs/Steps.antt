@@ -5,19 +5,22 @@ use native.Mathlib.{Omega.arith, Decide.dec_lt, Numerals.add-one}
 use lib.{Dec.eqb, ListN.length, ListN.get_or, ListN.drop, ListN.drop_of_length-le, ListN.get_or-eq_default, Seq.drop-cons}
 use borrow.Author.Tests.{ne_eqb}
 use Rattle.model.specs.declared.Fields.{Fields}
-use Rattle.text.specs.Emit.{Page, emit, Emitted}
-use Rattle.text.proofs.Pages.{emit-append, emit-then}
+use Rattle.text.specs.declared.Page.{Page}
+use Rattle.text.specs.Emit.{emit}
+use Rattle.text.specs.Written.{shown, Written}
+use Rattle.text.proofs.Pages.{emit-append}
+use Rattle.text.proofs.Writing.{written-none, written-then}
 use Rattle.notation.specs.declared.{Aim.Aim, Style.Style}
 use Rattle.notation.specs.Texts.{line_from, ends_by, each, plain_text, aim_of, filled}
 
 -- one more of the texts
-pub each_next : (f : ℕ → List ℕ) (n : ℕ) {p q r : Page} → Emitted (each f n) p q → Emitted (f n) q r → Emitted (each f (n + 1)) p r
+pub each_next : (f : ℕ → List ℕ) (n : ℕ) {p q r : Page} → Written (each f n) p q → Written (f n) q r → Written (each f (n + 1)) p r
 unfolding each
-each_next f n e g = rw add-one (emit-then e g)
+each_next f n e g = rw add-one (written-then e g)
 
-pub each_none : (f : ℕ → List ℕ) (p : Page) → Emitted (each f 0) p p
-unfolding each emit
-each_none f p = record { is = refl }
+pub each_none : (f : ℕ → List ℕ) (p : Page) → Written (each f 0) p p
+unfolding each
+each_none f p = written-none p
 
 -- a list from its element j on, or past its end
 from-here : {P : Type 0} (s : List ℕ) (j : ℕ) → (drop j s ≡ get_or s j 10 ∷ drop (j + 1) s → P)
@@ -72,19 +75,22 @@ ends-most b = go (eqb b 10) refl
     go true h = rw (ends_by, h) (omega arith)
     go false h = rw (ends_by, h) (omega arith)
 
--- what is left of a text to be emitted
+-- what is left of a text to be written
 pub record Left (all : List ℕ) (p : Page) (rest : List ℕ) (q : Page) : Type 0 where
-  pub is : emit rest q ≡ emit all p
+  pub is : emit rest (shown q) ≡ emit all (shown p)
+  pub slice : q.text.ghost_name ≡ p.text.ghost_name
 
 pub left-all : (all : List ℕ) (p : Page) → Left all p all p
-left-all all p = record { is = refl }
+left-all all p = record { is = refl; slice = refl }
 
-pub left-next : {all rest more : List ℕ} {p q r : Page} → Left all p (more ++ rest) q → Emitted more q r → Left all p rest r
-left-next {all} {rest} {more} {p} {q} l e = record { is = ap (emit rest) e.is ∙ sym (emit-append more rest q) ∙ l.is }
+pub left-next : {all rest more : List ℕ} {p q r : Page} → Left all p (more ++ rest) q → Written more q r → Left all p rest r
+left-next {all} {rest} {more} {p} {q} l e =
+    record { is = ap (emit rest) e.emitted.is ∙ sym (emit-append more rest (shown q)) ∙ l.is; slice = e.slice ∙ l.slice }
 
-pub left-none : {all rest : List ℕ} {p q : Page} → Left all p rest q → rest ≡ [] → Emitted all p q
+pub left-none : {all rest : List ℕ} {p q : Page} → Left all p rest q → rest ≡ [] → Written all p q
 unfolding emit
-left-none {all} {rest} {p} {q} l e = record { is = ap (λ (t : List ℕ). emit t q) (sym e) ∙ l.is }
+left-none {all} {rest} {p} {q} l e =
+    record { emitted = record { is = ap (λ (t : List ℕ). emit t (shown q)) (sym e) ∙ l.is }; slice = l.slice }
 
 -- a line's next byte filled in, and its end
 module _ (row : Aim → List ℕ) (st : Style) (a : Aim) (w : Fields) (s : List ℕ) (j : ℕ) where
@@ -135,12 +141,12 @@ stands-inside s j b e h = go (dec_lt j (length s))
 -- a line's turn: its next byte, which is b, and the row t that b stands for
 pub filled-turn : (row : Aim → List ℕ) (st : Style) (a : Aim) (w : Fields) (s : List ℕ) (j b : ℕ) (t : Aim) {all : List ℕ} {p q m r : Page}
     → Left all p (filled row st a w (drop j s)) q → b ≡ get_or s j 10 → (b ≡ 10 → ⊥) → t ≡ aim_of a w b
-    → Emitted (plain_text st a w b) q m → Emitted (row t) m r → Left all p (filled row st a w (drop (j + 1) s)) r
+    → Written (plain_text st a w b) q m → Written (row t) m r → Left all p (filled row st a w (drop (j + 1) s)) r
 filled-turn row st a w s j b t {q = q} l e h f x y =
     let n = filled_next row st a w s j (λ z. h (e ∙ z)) in
-    left-next (rw (n, ← e, ← f) at l) (emit-then x y)
+    left-next (rw (n, ← e, ← f) at l) (written-then x y)
 
 -- a line's end
 pub filled-ends : (row : Aim → List ℕ) (st : Style) (a : Aim) (w : Fields) (s : List ℕ) (j b : ℕ) {all : List ℕ} {p q : Page}
-    → Left all p (filled row st a w (drop j s)) q → b ≡ get_or s j 10 → b ≡ 10 → Emitted all p q
+    → Left all p (filled row st a w (drop j s)) q → b ≡ get_or s j 10 → b ≡ 10 → Written all p q
 filled-ends row st a w s j b l e h = left-none l (filled-end row st a w s j (sym e ∙ h))

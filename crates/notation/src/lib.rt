@@ -5,6 +5,7 @@ ghost use Rattle.std.specs.Prelude.{◌≡◌, ◌++◌, ◌<◌};
 ghost use Rattle.model.specs.Image.{tables_of, fields_of};
 ghost use Rattle.image.specs.Located.{Located};
 ghost use Rattle.text.specs.Emit.{page, Emitted};
+ghost use Rattle.text.specs.Written.{Written};
 ghost use Rattle.notation.specs.Table.{notation};
 ghost use Rattle.notation.specs.Texts.{line_from, filled, row_text};
 ghost use Rattle.notation.specs.Whole.{explained};
@@ -14,6 +15,7 @@ use image::{fields, row_count, trailer};
 use marks::{aim, line, notation_byte, put_lead, put_plain, row_line};
 use model::{Fields, Image, Refusal};
 use ntif::check;
+use text::Page;
 use whole::{pointing, put_accepted, put_listing, put_refusal, put_shown};
 
 pub mod lines;
@@ -64,28 +66,20 @@ pub fn row_fields(image: &[u8], i: Image, r: u16) -> Fields
 
 // A row's text, while rows are left to be gone through.
 #[cycle(put_filled_put_row)]
-fn put_row(
-    image: &[u8],
-    i: Image,
-    st: Style,
-    a: Aim,
-    left: u16,
-    text: &mut [u8],
-    at: usize,
-) -> usize
+fn put_row(image: &[u8], i: Image, st: Style, a: Aim, left: u16, page: &mut Page<'_>)
     requires { 0 < left → Located image.now i }
-    ensures { Emitted (row_text left (tables_of image.now) st a) (page at text.old) (page result text.new) }
+    ensures { Written (row_text left (tables_of image.now) st a) page.old page.new }
 {
     if left == 0 {
-        return at;
+        return;
     }
     if a.row == Image::NONE {
-        return at;
+        return;
     }
     let w = row_fields(image, i, a.row);
     let k = row_line(w) as u32 + a.shift as u32;
-    let body = put_lead(text, at, a.lead);
-    put_filled(image, i, st, a, w, k, left - 1, text, body)
+    put_lead(page, a.lead);
+    put_filled(image, i, st, a, w, k, left - 1, page);
 }
 
 // A line of the notation, filled in.
@@ -98,37 +92,33 @@ pub(crate) fn put_filled(
     w: Fields,
     k: u32,
     left: u16,
-    text: &mut [u8],
-    at: usize,
-) -> usize
+    page: &mut Page<'_>,
+)
     requires { 0 < left → Located image.now i }
-    ensures { Emitted (filled (λ t. row_text left (tables_of image.now) st t) st a w (line_from k notation)) (page at text.old) (page result text.new) }
+    ensures { Written (filled (λ t. row_text left (tables_of image.now) st t) st a w (line_from k notation)) page.old page.new }
 {
     let mut j = line(k);
-    let mut end = at;
     let mut b = notation_byte(j);
     while b != b'\n' {
-        let t = aim(a, w, b);
-        let row = put_plain(text, end, st, a, w, b);
-        end = put_row(image, i, st, t, left, text, row);
+        put_plain(page, st, a, w, b);
+        put_row(image, i, st, aim(a, w, b), left, page);
         j += 1;
         b = notation_byte(j);
     }
-    end
 }
 
 // What is written of an image, by what check gave with room for 64 sets.
-fn put_explained(image: &[u8], v: Result<(), Refusal>, sets: &[u64], text: &mut [u8]) -> usize
+fn put_explained(image: &[u8], v: Result<(), Refusal>, sets: &[u64], page: &mut Page<'_>)
     requires { Gave image.now v sets.now }
-    ensures { Emitted (explained image.now) (page 0 text.old) (page result text.new) }
+    ensures { Written (explained image.now) page.old page.new }
 {
     match v {
         Err(y) => {
             let n = y.number();
             let p = y.place();
             let st = pointing(n, p, false);
-            let a = put_shown(image, st, n, text, 0);
-            put_refusal(y, st, text, a)
+            put_shown(image, st, n, page);
+            put_refusal(y, st, page);
         }
         Ok(()) => {
             let i = trailer(image);
@@ -137,8 +127,8 @@ fn put_explained(image: &[u8], v: Result<(), Refusal>, sets: &[u64], text: &mut 
                 state: Image::NONE,
                 graph: false,
             };
-            let a = put_listing(image, i, st, text, 0);
-            put_accepted(image, i, st, sets, text, a)
+            put_listing(image, i, st, page);
+            put_accepted(image, i, st, sets, page);
         }
     }
 }
@@ -149,5 +139,7 @@ pub fn explain(image: &[u8], text: &mut [u8]) -> usize
 {
     let mut sets = [0u64; Image::STATES as usize];
     let v = check(image, &mut sets);
-    put_explained(image, v, &sets, text)
+    let mut page = Page::new(text);
+    put_explained(image, v, &sets, &mut page);
+    page.end
 }

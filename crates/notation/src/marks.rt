@@ -1,13 +1,13 @@
 // What the marks of the notation stand for.
 ghost use Rattle.std.specs.Prelude.{◌≡◌, ◌++◌, get_or, drop};
-ghost use Rattle.text.specs.Emit.{page, Emitted};
+ghost use Rattle.text.specs.Written.{Written};
 ghost use Rattle.notation.specs.Table.{notation};
 ghost use Rattle.notation.specs.Texts.{line_from, ends_by, blanks, padding, type_name, line_end, margin, pointer, line_start, plain_text, deeper, aim_of, lead_text, constant_line, gate_line, row_line};
 
 use crate::lines::{COMMUNICATE, FALSE, INT, TAU, TRUE, VALUE};
 use crate::{Aim, Style};
 use model::{Fields, Image};
-use text::{emit, emit_byte, emit_literal, emit_number};
+use text::Page;
 
 const LENGTH: usize = 1490;
 
@@ -140,16 +140,12 @@ pub(crate) fn line(k: u32) -> usize
     j
 }
 
-fn put_blanks(text: &mut [u8], at: usize, n: u16) -> usize
-    ensures { Emitted (blanks n) (page at text.old) (page result text.new) }
+fn put_blanks(page: &mut Page<'_>, n: u16)
+    ensures { Written (blanks n) page.old page.new }
 {
-    let mut end = at;
-    let mut k = 0;
-    while k < n {
-        end = emit_byte(text, end, b' ');
-        k += 1;
+    for k in 0..n {
+        page.emit_byte(b' ');
     }
-    end
 }
 
 fn padding(r: u16) -> u16
@@ -167,105 +163,103 @@ fn padding(r: u16) -> u16
     2
 }
 
-fn put_type(text: &mut [u8], at: usize, t: u16) -> usize
-    ensures { Emitted (type_name t) (page at text.old) (page result text.new) }
+fn put_type(page: &mut Page<'_>, t: u16)
+    ensures { Written (type_name t) page.old page.new }
 {
     if t == 0 {
-        return emit(text, at, b"bool");
+        page.emit(b"bool");
+    } else if t == 1 {
+        page.emit(b"int");
+    } else {
+        page.emit_byte(b'T');
+        page.emit_number(t);
     }
-    if t == 1 {
-        return emit(text, at, b"int");
-    }
-    let end = emit_byte(text, at, b'T');
-    emit_number(text, end, t)
 }
 
-fn put_end(text: &mut [u8], at: usize, graph: bool) -> usize
-    ensures { Emitted (line_end graph) (page at text.old) (page result text.new) }
+fn put_end(page: &mut Page<'_>, graph: bool)
+    ensures { Written (line_end graph) page.old page.new }
 {
     if graph {
-        return emit(text, at, b"\\l");
+        page.emit(b"\\l");
+    } else {
+        page.emit_byte(b'\n');
     }
-    emit_byte(text, at, b'\n')
 }
 
-fn put_margin(text: &mut [u8], at: usize, place: u16, row: u16) -> usize
-    ensures { Emitted (margin place row) (page at text.old) (page result text.new) }
+fn put_margin(page: &mut Page<'_>, place: u16, row: u16)
+    ensures { Written (margin place row) page.old page.new }
 {
     if row == place {
-        return emit(text, at, b"> ");
+        page.emit(b"> ");
+    } else {
+        page.emit(b"  ");
     }
-    emit(text, at, b"  ")
 }
 
-fn put_pointer(text: &mut [u8], at: usize, place: u16, row: u16) -> usize
-    ensures { Emitted (pointer place row) (page at text.old) (page result text.new) }
+fn put_pointer(page: &mut Page<'_>, place: u16, row: u16)
+    ensures { Written (pointer place row) page.old page.new }
 {
     if row == place {
-        return emit(text, at, b">>");
+        page.emit(b">>");
     }
-    at
 }
 
-fn put_start(text: &mut [u8], at: usize, st: Style, a: Aim) -> usize
-    ensures { Emitted (line_start st a) (page at text.old) (page result text.new) }
+fn put_start(page: &mut Page<'_>, st: Style, a: Aim)
+    ensures { Written (line_start st a) page.old page.new }
 {
-    let number = put_margin(text, at, st.place, a.row);
-    let column = emit_number(text, number, a.row);
-    let pad = padding(a.row);
-    let indent = put_blanks(text, column, pad);
-    put_blanks(text, indent, a.depth)
+    put_margin(page, st.place, a.row);
+    page.emit_number(a.row);
+    put_blanks(page, padding(a.row));
+    put_blanks(page, a.depth);
 }
 
-fn put_indent(text: &mut [u8], at: usize, depth: u16) -> usize
-    ensures { Emitted (blanks 8 ++ blanks depth) (page at text.old) (page result text.new) }
+fn put_indent(page: &mut Page<'_>, depth: u16)
+    ensures { Written (blanks 8 ++ blanks depth) page.old page.new }
 {
-    let indent = put_blanks(text, at, 8);
-    put_blanks(text, indent, depth)
+    put_blanks(page, 8);
+    put_blanks(page, depth);
 }
 
 // The words before a row.
-pub(crate) fn put_lead(text: &mut [u8], at: usize, lead: u8) -> usize
-    ensures { Emitted (lead_text lead) (page at text.old) (page result text.new) }
+pub(crate) fn put_lead(page: &mut Page<'_>, lead: u8)
+    ensures { Written (lead_text lead) page.old page.new }
 {
-    if lead == 0 {
-        return at;
+    match lead {
+        0 => {}
+        1 => page.emit(b", "),
+        _ => page.emit(b" where "),
     }
-    if lead == 1 {
-        return emit(text, at, b", ");
-    }
-    emit(text, at, b" where ")
 }
 
 // What a byte of a row's line stands for, if that is no row.
-pub(crate) fn put_plain(text: &mut [u8], at: usize, st: Style, a: Aim, w: Fields, b: u8) -> usize
-    ensures { Emitted (plain_text st a w b) (page at text.old) (page result text.new) }
+pub(crate) fn put_plain(page: &mut Page<'_>, st: Style, a: Aim, w: Fields, b: u8)
+    ensures { Written (plain_text st a w b) page.old page.new }
 {
     match b {
-        b'0' => emit_number(text, at, w.a),
-        b'1' => emit_number(text, at, w.b),
-        b'2' => emit_number(text, at, w.c),
-        b'3' => emit_literal(text, at, w.b),
-        b'4' => emit_literal(text, at, w.c),
-        b'5' => put_type(text, at, w.a),
-        b'6' => put_type(text, at, w.b),
-        b'9' => emit_number(text, at, w.code),
-        b'L' => put_start(text, at, st, a),
-        b'I' => put_indent(text, at, a.depth),
-        b'M' => put_margin(text, at, st.state, a.row),
-        b'P' => put_pointer(text, at, st.place, a.row),
-        b'E' => put_end(text, at, st.graph),
-        b'U' => emit_byte(text, at, b'\n'),
-        b'A' => at,
-        b'B' => at,
-        b'C' => at,
-        b'D' => at,
-        b'F' => at,
-        b'N' => at,
-        b'Q' => at,
-        b'R' => at,
-        b'W' => at,
-        _ => emit_byte(text, at, b),
+        b'0' => page.emit_number(w.a),
+        b'1' => page.emit_number(w.b),
+        b'2' => page.emit_number(w.c),
+        b'3' => page.emit_literal(w.b),
+        b'4' => page.emit_literal(w.c),
+        b'5' => put_type(page, w.a),
+        b'6' => put_type(page, w.b),
+        b'9' => page.emit_number(w.code),
+        b'L' => put_start(page, st, a),
+        b'I' => put_indent(page, a.depth),
+        b'M' => put_margin(page, st.state, a.row),
+        b'P' => put_pointer(page, st.place, a.row),
+        b'E' => put_end(page, st.graph),
+        b'U' => page.emit_byte(b'\n'),
+        b'A' => {}
+        b'B' => {}
+        b'C' => {}
+        b'D' => {}
+        b'F' => {}
+        b'N' => {}
+        b'Q' => {}
+        b'R' => {}
+        b'W' => {}
+        _ => page.emit_byte(b),
     }
 }
 

@@ -3,7 +3,7 @@ ghost use Rattle.std.specs.Prelude.{◌≡◌, ◌<◌};
 ghost use Rattle.model.specs.Limits.{limits};
 ghost use Rattle.model.specs.Image.{tables_of};
 ghost use Rattle.image.specs.Located.{Located, RowOf, TypeOf, VariableOf, StateOf};
-ghost use Rattle.text.specs.Emit.{page, Emitted};
+ghost use Rattle.text.specs.Written.{Written};
 ghost use Rattle.notation.specs.Texts.{line_text};
 ghost use Rattle.notation.specs.Whole.{words_text, type_line, variable_line, type_filling, variable_filling, state_filling, row_filling, filling_of, count_of, entry_text, table_text};
 ghost use Rattle.notation.specs.Inside.{EntryOf};
@@ -15,10 +15,11 @@ use crate::lines::{
 use crate::{Aim, Filling, Style, put_filled};
 use image::{fields, parameter, size, state_row, variable_type};
 use model::{Fields, Image};
+use text::Page;
 
 // A line without rows.
-pub(crate) fn put_words(st: Style, k: u32, w: Fields, r: u16, text: &mut [u8], at: usize) -> usize
-    ensures { Emitted (words_text st k w r) (page at text.old) (page result text.new) }
+pub(crate) fn put_words(st: Style, k: u32, w: Fields, r: u16, page: &mut Page<'_>)
+    ensures { Written (words_text st k w r) page.old page.new }
 {
     let i = Image {
         types: 0,
@@ -35,7 +36,7 @@ pub(crate) fn put_words(st: Style, k: u32, w: Fields, r: u16, text: &mut [u8], a
         shift: 0,
         depth: 0,
     };
-    put_filled(b"", i, st, a, w, k, 0, text, at)
+    put_filled(b"", i, st, a, w, k, 0, page);
 }
 
 // A line, with the rows that it names.
@@ -46,11 +47,10 @@ pub(crate) fn put_line(
     k: u32,
     w: Fields,
     r: u16,
-    text: &mut [u8],
-    at: usize,
-) -> usize
+    page: &mut Page<'_>,
+)
     requires { Located image.now i }
-    ensures { Emitted (line_text limits.rows (tables_of image.now) st k w r) (page at text.old) (page result text.new) }
+    ensures { Written (line_text limits.rows (tables_of image.now) st k w r) page.old page.new }
 {
     let a = Aim {
         row: r,
@@ -58,7 +58,7 @@ pub(crate) fn put_line(
         shift: 0,
         depth: 0,
     };
-    put_filled(image, i, st, a, w, k, Image::ROWS, text, at)
+    put_filled(image, i, st, a, w, k, Image::ROWS, page);
 }
 
 fn type_line(t: u16) -> u32
@@ -157,26 +157,21 @@ fn count_of(image: &[u8], i: Image, k: u32) -> u16
     }
 }
 
-fn put_entry(image: &[u8], i: Image, st: Style, k: u32, q: u16, text: &mut [u8], at: usize) -> usize
+fn put_entry(image: &[u8], i: Image, st: Style, k: u32, q: u16, page: &mut Page<'_>)
     requires { EntryOf image.now i k q }
-    ensures { Emitted (entry_text (tables_of image.now) st k q) (page at text.old) (page result text.new) }
+    ensures { Written (entry_text (tables_of image.now) st k q) page.old page.new }
 {
     let f = filling_of(image, i, k, q);
-    let w = f.fields;
-    put_line(image, i, st, f.line, w, q, text, at)
+    put_line(image, i, st, f.line, f.fields, q, page);
 }
 
 // All lines of a table.
-pub fn put_table(image: &[u8], i: Image, st: Style, k: u32, text: &mut [u8], at: usize) -> usize
+pub fn put_table(image: &[u8], i: Image, st: Style, k: u32, page: &mut Page<'_>)
     requires { Located image.now i }
-    ensures { Emitted (table_text (tables_of image.now) i st k) (page at text.old) (page result text.new) }
+    ensures { Written (table_text (tables_of image.now) i st k) page.old page.new }
 {
     let n = count_of(image, i, k);
-    let mut end = at;
-    let mut q = 0;
-    while q < n {
-        end = put_entry(image, i, st, k, q, text, end);
-        q += 1;
+    for q in 0..n {
+        put_entry(image, i, st, k, q, page);
     }
-    end
 }

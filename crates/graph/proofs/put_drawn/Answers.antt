@@ -27,4 +27,4 @@ returns-else-n-lt8 c = rw (gave-drawn c.requires, c.in-Err.is, drawn-graph c.arg
 
 pub returns-in-Ok : goal.returns-in-Ok
 unfolding drawn_by
-returns-in-Ok c = rw (gave-drawn c.requires, c.in-Ok.is, ← c.trailer-i-in-Ok.ensures, ← c.plain_style-st.ensures) c.put_graph-in-Ok.ensures
+returns-in-Ok c = rw (gave-drawn c.requires, c.in-Ok.is, ← c.trailer-i-in-Ok.ensures, ← c.plain_style.ensures) c.put_graph-in-Ok.ensures

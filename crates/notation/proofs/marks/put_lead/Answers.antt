@@ -1,16 +1,17 @@
+use borrow.Author.Rules.{rules}
 use borrow.Author.Tests.{ne_eqb}
+use Rattle.text.proofs.Writing.{written-none}
 use Rattle.notation.specs.Texts.{lead_text}
-use Rattle.text.proofs.Pages.{emit-none}
 use Rattle.notation.proofs.marks.put_lead.Goals as goal
 
-pub returns-then-lead-eq0 : goal.returns-then-lead-eq0
+pub returns-in-0 : goal.returns-in-0
 unfolding lead_text
-returns-then-lead-eq0 c = rw c.if-lead-eq0.true (emit-none _)
+returns-in-0 c = rw c.in-0.is (written-none _)
 
-pub returns-then-lead-eq1 : goal.returns-then-lead-eq1
+pub returns-in-1 : goal.returns-in-1
 unfolding lead_text
-returns-then-lead-eq1 c = rw c.if-lead-eq1.true c.emit.ensures
+returns-in-1 c = rw c.in-1.is c.emit.ensures
 
-pub returns : goal.returns
+pub returns-in_default : goal.returns-in_default
 unfolding lead_text
-returns c = rw (lead_text, ne_eqb c.args.lead 0 c.if-lead-eq0.false, ne_eqb c.args.lead 1 c.if-lead-eq1.false) c.emit-2.ensures
+returns-in_default c = rw (lead_text, ne_eqb c.args.lead 0 (search rules), ne_eqb c.args.lead 1 (search rules)) c.emit-in_default.ensures

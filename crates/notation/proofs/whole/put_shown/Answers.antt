@@ -31,6 +31,6 @@ returns-then-n-lt8 c = rw (shown_text, le-ltb c.args.n 3 (search rules), le-ltb 
 pub put_listing-requires : goal.put_listing-requires
 put_listing-requires c = rw c.trailer-i.ensures (c.requires.located (search rules))
 
-pub returns : goal.returns
+pub returns-else-n-lt8 : goal.returns-else-n-lt8
 unfolding shown_text
-returns c = rw (shown_text, le-ltb c.args.n 3 (search rules), le-ltb c.args.n 4 (search rules), le-ltb c.args.n 5 (search rules), le-ltb c.args.n 8 (search rules), ← c.trailer-i.ensures) c.put_listing.ensures
+returns-else-n-lt8 c = rw (shown_text, le-ltb c.args.n 3 (search rules), le-ltb c.args.n 4 (search rules), le-ltb c.args.n 5 (search rules), le-ltb c.args.n 8 (search rules), ← c.trailer-i.ensures) c.put_listing.ensures
