@@ -1,6 +1,7 @@
 // The simple actions that say nothing: assignment, any, reset; each on a working copy of the store.
 #![tactic(auto)]
 
+ghost use Rattle.image.specs.Located.{tables};
 ghost use Rattle.std.specs.Prelude.{◌≡◌, cond, length};
 ghost use Rattle.model.specs.declared.Refusal.TheVariants.{Blocked, BlockedSpoken};
 ghost use Rattle.model.specs.Answers.{row};
@@ -14,7 +15,7 @@ ghost use Rattle.actions.specs.State.{Silent};
 ghost use Rattle.actions.specs.Words.{word_of, Drawn, drawing};
 
 use expressions::{eval, row, test};
-use image::size;
+use image::Automaton;
 use model::{Fields, Image, Outcome, Refusal, Row, Tested};
 use values::of_size;
 use words::word;
@@ -116,22 +117,21 @@ pub fn read_word(script: &[u8], i: usize, n: u16) -> Word
 
 // Any's words: each is read, judged and stored in its turn.
 pub fn draw(
-    image: &[u8],
-    i: Image,
+    x: &Automaton,
     place: u16,
     first: u16,
     store: &mut [i32],
     script: &[u8],
     run: Run,
 ) -> Ran
-    requires { Drawn image.now i first store.old }
-    ensures { Silent result run store.old store.new (drawing (tables_of image.now) (of_types_at (tables_of image.now) first) script.now place) }
+    requires { Drawn x.now.image.now x.now.trailer first store.old }
+    ensures { Silent result run store.old store.new (drawing (tables x.now) (of_types_at (tables x.now) first) script.now place) }
 {
     let mut words = run.words;
     let mut r = first;
     while r != Image::NONE {
-        let w = row(image, i.rows, r);
-        match read_word(script, words, size(image, i, w.b)) {
+        let w = row(x.image, x.trailer.rows, r);
+        match read_word(script, words, x.size(w.b)) {
             Word::Ended => {
                 return Ran {
                     out: Outcome::Stops(Refusal::ScriptEnded(Row(place))),
@@ -198,22 +198,14 @@ fn try_condition(image: &[u8], rows: u16, r: u16, c: u16, store: &[i32], run: Ru
 }
 
 // 50, R12: all words are read before the condition is tried.
-pub fn choose(
-    image: &[u8],
-    i: Image,
-    r: u16,
-    w: Fields,
-    store: &mut [i32],
-    script: &[u8],
-    run: Run,
-) -> Ran
-    requires { Doing 50 image.now i r w store.old }
-    ensures { Silent result run store.old store.new (choosing (tables_of image.now) (of_types_at (tables_of image.now) w.a) (condition_at (tables_of image.now) w.b) script.now r) }
+pub fn choose(x: &Automaton, r: u16, w: Fields, store: &mut [i32], script: &[u8], run: Run) -> Ran
+    requires { Doing 50 x.now.image.now x.now.trailer r w store.old }
+    ensures { Silent result run store.old store.new (choosing (tables x.now) (of_types_at (tables x.now) w.a) (condition_at (tables x.now) w.b) script.now r) }
 {
-    let drawn = draw(image, i, r, w.a, store, script, run);
+    let drawn = draw(x, r, w.a, store, script, run);
     let out = drawn.out;
     match out {
-        Outcome::Ends => try_condition(image, i.rows, r, w.b, store, drawn.run),
+        Outcome::Ends => try_condition(x.image, x.trailer.rows, r, w.b, store, drawn.run),
         _ => drawn,
     }
 }

@@ -2,14 +2,14 @@
 // of a for leaves its variable alone, and the initial condition reads parameters only.
 #![tactic(auto)]
 
+ghost use Rattle.image.specs.Located.{tables};
 ghost use Rattle.std.specs.Prelude.{◌≡◌};
-ghost use Rattle.model.specs.Image.{tables_of};
 ghost use Rattle.model.specs.Rows.{kind_of, shape_of};
 ghost use Rattle.model.specs.Decode.{offers_at};
 ghost use Rattle.model.specs.Binding.{distinct, bound};
 ghost use Rattle.binding.specs.Bound.{binding_verdict, Masked, bits_at, bound_offers, Item, Vector, Offers, Ruled, Rule, next_in};
 
-use image::{fields, row_count};
+use image::Automaton;
 use masks::{Masks, apart, bit, inside, masks_in, parameters};
 use model::{Fields, Image, Refusal, Row};
 
@@ -22,13 +22,13 @@ fn next_item(w: Fields) -> u16
 }
 
 // No variable of a vector stands in it twice: each is apart from those of the rest of the list.
-fn distinct_items(image: &[u8], i: Image, first: u16, masks: &[Masks]) -> bool
-    requires { Vector image.now i first masks.now }
-    ensures { result ≡ distinct (bits_at (tables_of image.now) first) }
+fn distinct_items(x: &Automaton, first: u16, masks: &[Masks]) -> bool
+    requires { Vector x.now.image.now x.now.trailer first masks.now }
+    ensures { result ≡ distinct (bits_at (tables x.now) first) }
 {
     let mut r = first;
     while r != Image::NONE {
-        let w = fields(image, i, r);
+        let w = x.fields(r);
         let next = next_item(w);
         if !apart(bit(w.a), masks_in(masks, next).defs) {
             return false;
@@ -39,13 +39,13 @@ fn distinct_items(image: &[u8], i: Image, first: u16, masks: &[Masks]) -> bool
 }
 
 // What an offer defines, and what it uses, is apart from what later offers define.
-fn bound_offers(image: &[u8], i: Image, first: u16, masks: &[Masks]) -> bool
-    requires { Offers image.now i first masks.now }
-    ensures { result ≡ bound_offers (offers_at (tables_of image.now) first) }
+fn bound_offers(x: &Automaton, first: u16, masks: &[Masks]) -> bool
+    requires { Offers x.now.image.now x.now.trailer first masks.now }
+    ensures { result ≡ bound_offers (offers_at (tables x.now) first) }
 {
     let mut r = first;
     while r != Image::NONE {
-        let w = fields(image, i, r);
+        let w = x.fields(r);
         let offer = masks_in(masks, w.a);
         let later = masks_in(masks, w.b).defs;
         if !apart(offer.defs, later) {
@@ -60,33 +60,33 @@ fn bound_offers(image: &[u8], i: Image, first: u16, masks: &[Masks]) -> bool
 }
 
 // Row r's rule. The condition's row is an expression, so it has no rule but that it reads what is allowed: parameters.
-fn bound(image: &[u8], i: Image, r: u16, masks: &[Masks], allowed: u64) -> bool
-    requires { Rule image.now i r masks.now allowed }
-    ensures { result ≡ bound (tables_of image.now) r }
+fn bound(x: &Automaton, r: u16, masks: &[Masks], allowed: u64) -> bool
+    requires { Rule x.now.image.now x.now.trailer r masks.now allowed }
+    ensures { result ≡ bound (tables x.now) r }
 {
-    if r == i.condition {
+    if r == x.trailer.condition {
         return inside(masks_in(masks, r).uses, allowed);
     }
-    let w = fields(image, i, r);
+    let w = x.fields(r);
     let code = w.code;
     match code {
-        49..=51 => distinct_items(image, i, w.a, masks),
-        52 => bound_offers(image, i, w.b, masks),
+        49..=51 => distinct_items(x, w.a, masks),
+        52 => bound_offers(x, w.b, masks),
         60 => apart(masks_in(masks, w.a).defs, masks_in(masks, w.b).defs),
         _ => true,
     }
 }
 
 // The lowest row whose rule fails.
-fn rows_verdict(image: &[u8], i: Image, masks: &[Masks]) -> Result<(), Refusal>
-    requires { Ruled image.now i masks.now }
-    ensures { result ≡ binding_verdict (tables_of image.now) }
+fn rows_verdict(x: &Automaton, masks: &[Masks]) -> Result<(), Refusal>
+    requires { Ruled x.now.image.now x.now.trailer masks.now }
+    ensures { result ≡ binding_verdict (tables x.now) }
 {
-    let allowed = parameters(image, i);
+    let allowed = parameters(x);
     let n = masks.len() as u16;
     let mut r: u16 = 0;
     while r < n {
-        if !bound(image, i, r, masks, allowed) {
+        if !bound(x, r, masks, allowed) {
             return Err(Refusal::Binding(Row(r)));
         }
         r += 1;
@@ -95,10 +95,10 @@ fn rows_verdict(image: &[u8], i: Image, masks: &[Masks]) -> Result<(), Refusal>
 }
 
 // 9: binding. What is lent on ends where the rows end, so that none is past it.
-pub fn binding_verdict(image: &[u8], i: Image, masks: &[Masks]) -> Result<(), Refusal>
-    requires { Masked image.now i masks.now }
-    ensures { result ≡ binding_verdict (tables_of image.now) }
+pub fn binding_verdict(x: &Automaton, masks: &[Masks]) -> Result<(), Refusal>
+    requires { Masked x.now.image.now x.now.trailer masks.now }
+    ensures { result ≡ binding_verdict (tables x.now) }
 {
-    let n = row_count(image, i) as usize;
-    rows_verdict(image, i, &masks[..n])
+    let n = x.row_count() as usize;
+    rows_verdict(x, &masks[..n])
 }

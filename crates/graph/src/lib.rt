@@ -2,8 +2,8 @@
 #![tactic(auto)]
 
 ghost use Rattle.std.specs.Prelude.{◌≡◌, true, ◌<◌};
-ghost use Rattle.model.specs.Image.{tables_of, state_count};
-ghost use Rattle.image.specs.Located.{Located, StateOf};
+ghost use Rattle.model.specs.Image.{state_count};
+ghost use Rattle.image.specs.Located.{tables, Located, StateOf};
 ghost use Rattle.text.specs.Emit.{page, Emitted};
 ghost use Rattle.text.specs.Written.{Written};
 ghost use Rattle.notation.specs.Texts.{each};
@@ -12,7 +12,7 @@ ghost use Rattle.listing.specs.Gave.{Gave};
 ghost use Rattle.graph.specs.Ways.{nowhere, either, reached, with_gate, spoken, parts_of, after_leaf, enters, leaves, gate_line, gate_text, quiet_text, label_text, arrow_text, state_arrows, graph_text, refused_text, drawn};
 ghost use Rattle.graph.specs.Walked.{Walked};
 
-use image::{state_row, trailer};
+use image::{Automaton, trailer};
 use masks::{bit, inside};
 use model::{Fields, Image, Refusal};
 use notation::lines::{
@@ -221,9 +221,9 @@ fn put_arrow(q: u16, w: Fields, m: Said, page: &mut Page<'_>)
 }
 
 // The arrows of a row in the action of state q, entered with m said, and what is said after the row.
-fn walk_row(image: &[u8], i: Image, q: u16, r: u16, m: Said, left: u16, page: &mut Page<'_>) -> Said
-    requires { Located image.now i }
-    ensures { Walked left (tables_of image.now) q r m page.old page.new result }
+fn walk_row(x: &Automaton, q: u16, r: u16, m: Said, left: u16, page: &mut Page<'_>) -> Said
+    requires { Located x.now.image.now x.now.trailer }
+    ensures { Walked left (tables x.now) q r m page.old page.new result }
 {
     if left == 0 {
         return nowhere();
@@ -231,44 +231,44 @@ fn walk_row(image: &[u8], i: Image, q: u16, r: u16, m: Said, left: u16, page: &m
     if r == Image::NONE {
         return nowhere();
     }
-    let w = row_fields(image, i, r);
+    let w = row_fields(x, r);
     let p = parts_of(w);
     put_arrow(q, w, m, page);
-    let one = walk_row(image, i, q, p.first, m, left - 1, page);
+    let one = walk_row(x, q, p.first, m, left - 1, page);
     let n = enters(p.kind, m, one);
-    let two = walk_row(image, i, q, p.second, n, left - 1, page);
+    let two = walk_row(x, q, p.second, n, left - 1, page);
     leaves(p.kind, w, m, one, two)
 }
 
-fn put_state_arrows(image: &[u8], i: Image, q: u16, page: &mut Page<'_>)
-    requires { StateOf image.now i q }
-    ensures { Written (state_arrows (tables_of image.now) q) page.old page.new }
+fn put_state_arrows(x: &Automaton, q: u16, page: &mut Page<'_>)
+    requires { StateOf x.now.image.now x.now.trailer q }
+    ensures { Written (state_arrows (tables x.now) q) page.old page.new }
 {
-    let row = state_row(image, i, q);
+    let row = x.state_row(q);
     let m = Said {
         gates: 0,
         quiet: true,
     };
-    walk_row(image, i, q, row, m, Image::ROWS, page);
+    walk_row(x, q, row, m, Image::ROWS, page);
 }
 
-fn put_arrows(image: &[u8], i: Image, page: &mut Page<'_>)
-    requires { Located image.now i }
-    ensures { Written (each (state_arrows (tables_of image.now)) (state_count i)) page.old page.new }
+fn put_arrows(x: &Automaton, page: &mut Page<'_>)
+    requires { Located x.now.image.now x.now.trailer }
+    ensures { Written (each (state_arrows (tables x.now)) (state_count x.now.trailer)) page.old page.new }
 {
-    let n = (i.rows - i.states) / 2;
+    let n = (x.trailer.rows - x.trailer.states) / 2;
     for q in 0..n {
-        put_state_arrows(image, i, q, page);
+        put_state_arrows(x, q, page);
     }
 }
 
-fn put_graph(image: &[u8], i: Image, st: Style, page: &mut Page<'_>)
-    requires { Located image.now i }
-    ensures { Written (graph_text (tables_of image.now) i st) page.old page.new }
+fn put_graph(x: &Automaton, st: Style, page: &mut Page<'_>)
+    requires { Located x.now.image.now x.now.trailer }
+    ensures { Written (graph_text (tables x.now) x.now.trailer st) page.old page.new }
 {
     put_said(st, GRAPH, 0, 0, 0, 0, page);
-    put_table(image, i, st, BOX, page);
-    put_arrows(image, i, page);
+    put_table(x, st, BOX, page);
+    put_arrows(x, page);
     put_said(st, GRAPH_END, 0, 0, 0, 0, page);
 }
 
@@ -295,12 +295,18 @@ fn put_drawn(image: &[u8], v: Result<(), Refusal>, sets: &[u64], page: &mut Page
             if n < 8 {
                 return put_refused(y, st, page);
             }
-            let i = trailer(image);
-            put_graph(image, i, st, page);
+            let x = Automaton {
+                image,
+                trailer: trailer(image),
+            };
+            put_graph(&x, st, page);
         }
         Ok(()) => {
-            let i = trailer(image);
-            put_graph(image, i, plain_style(), page);
+            let x = Automaton {
+                image,
+                trailer: trailer(image),
+            };
+            put_graph(&x, plain_style(), page);
         }
     }
 }

@@ -2,13 +2,13 @@
 #![tactic(auto)]
 
 ghost use Rattle.std.specs.Prelude.{◌≡◌, [], ◌∷◌, ◌++◌, ◌*◌, ◌≤◌, length, take, drop, Err};
-ghost use Rattle.model.specs.Image.{tables_of, variable_count, state_count};
+ghost use Rattle.model.specs.Image.{variable_count, state_count};
 ghost use Rattle.model.specs.Exports.{decimal, lines, listed, listing};
-ghost use Rattle.image.specs.Located.{Located, StateOf};
+ghost use Rattle.image.specs.Located.{tables, Located, StateOf};
 ghost use Rattle.text.specs.Written.{Written};
 ghost use Rattle.listing.specs.Gave.{Gave};
 
-use image::{state_row, trailer};
+use image::{Automaton, trailer};
 use model::{Image, Refusal};
 use ntif::check;
 use text::{Page, count};
@@ -22,27 +22,27 @@ fn put_number(page: &mut Page<'_>, n: u16, after: u8)
 }
 
 // A state's line: the state, its row, the number of variables in its set.
-fn put_line(image: &[u8], i: Image, q: u16, mask: u64, page: &mut Page<'_>)
-    requires { StateOf image.now i q }
-    ensures most { length (lines (tables_of image.now).states (variable_count i) q (mask ∷ [])) ≤ 18 }
-    ensures line { Written (lines (tables_of image.now).states (variable_count i) q (mask ∷ [])) page.old page.new }
+fn put_line(x: &Automaton, q: u16, mask: u64, page: &mut Page<'_>)
+    requires { StateOf x.now.image.now x.now.trailer q }
+    ensures most { length (lines (tables x.now).states (variable_count x.now.trailer) q (mask ∷ [])) ≤ 18 }
+    ensures line { Written (lines (tables x.now).states (variable_count x.now.trailer) q (mask ∷ [])) page.old page.new }
 {
-    let row = state_row(image, i, q);
-    let defined = count(mask, (i.states - i.variables) / 4);
+    let row = x.state_row(q);
+    let defined = count(mask, (x.trailer.states - x.trailer.variables) / 4);
     put_number(page, q, b' ');
     put_number(page, row, b' ');
     put_number(page, defined, b'\n');
 }
 
 // The lines of all states.
-fn put_lines(image: &[u8], i: Image, sets: &[u64], page: &mut Page<'_>)
-    requires { Located image.now i × (state_count i ≤ length sets.now) }
-    ensures most { length (lines (tables_of image.now).states (variable_count i) 0 (take (state_count i) sets.now)) ≤ 18 * state_count i }
-    ensures lines { Written (lines (tables_of image.now).states (variable_count i) 0 (take (state_count i) sets.now)) page.old page.new }
+fn put_lines(x: &Automaton, sets: &[u64], page: &mut Page<'_>)
+    requires { Located x.now.image.now x.now.trailer × (state_count x.now.trailer ≤ length sets.now) }
+    ensures most { length (lines (tables x.now).states (variable_count x.now.trailer) 0 (take (state_count x.now.trailer) sets.now)) ≤ 18 * state_count x.now.trailer }
+    ensures lines { Written (lines (tables x.now).states (variable_count x.now.trailer) 0 (take (state_count x.now.trailer) sets.now)) page.old page.new }
 {
-    let states = (i.rows - i.states) / 2;
+    let states = (x.trailer.rows - x.trailer.states) / 2;
     for q in 0..states {
-        put_line(image, i, q, sets[q as usize], page);
+        put_line(x, q, sets[q as usize], page);
     }
 }
 
@@ -64,9 +64,12 @@ fn put_listing(image: &[u8], v: Result<(), Refusal>, sets: &[u64], page: &mut Pa
     match v {
         Err(y) => put_refusal(y, page),
         Ok(()) => {
-            let i = trailer(image);
+            let x = Automaton {
+                image,
+                trailer: trailer(image),
+            };
             page.emit(b"state row defined\n");
-            put_lines(image, i, sets, page);
+            put_lines(&x, sets, page);
         }
     }
 }

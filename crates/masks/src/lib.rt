@@ -3,15 +3,15 @@
 
 ghost use Rattle.std.specs.Prelude.{◌≡◌, ◌≤◌, ◌<◌};
 ghost use Rattle.model.specs.Masks.{bit, full, without, inside, apart};
-ghost use Rattle.model.specs.Image.{tables_of, row_count};
+ghost use Rattle.model.specs.Image.{row_count};
 ghost use Rattle.model.specs.Rows.{shape_of};
 ghost use Rattle.model.specs.Binding.{parameters_of};
-ghost use Rattle.image.specs.Located.{Formed};
+ghost use Rattle.image.specs.Located.{tables, Formed};
 ghost use Rattle.masks.specs.Masks.{masks_in, Filled};
 ghost use Rattle.masks.specs.Rows.{joined, masks_by, Small, Lent, Fit};
 
-use image::{fields, parameter, row_count, variable_count};
-use model::{Fields, Image};
+use image::Automaton;
+use model::Fields;
 
 // Just v.
 pub fn bit(v: u16) -> u64
@@ -194,32 +194,32 @@ fn masks_of(w: Fields, masks: &[Masks]) -> Masks
 }
 
 // The masks of every row, lowest first, since rows name only lower rows.
-fn fill_rows(image: &[u8], i: Image, masks: &mut [Masks])
-    requires { Fit image.now i masks.old }
-    ensures { Filled (tables_of image.now) (row_count i) masks.new }
+fn fill_rows(x: &Automaton, masks: &mut [Masks])
+    requires { Fit x.now.image.now x.now.trailer masks.old }
+    ensures { Filled (tables x.now) (row_count x.now.trailer) masks.new }
 {
     for r in 0..masks.len() {
-        masks[r] = masks_of(fields(image, i, r as u16), masks);
+        masks[r] = masks_of(x.fields(r as u16), masks);
     }
 }
 
 // The masks of every row, into the slice's first entries. What is lent on ends where the rows end, so that none is past it.
-pub fn fill(image: &[u8], i: Image, masks: &mut [Masks])
-    requires { Lent image.now i masks.old }
-    ensures { Filled (tables_of image.now) (row_count i) masks.new }
+pub fn fill(x: &Automaton, masks: &mut [Masks])
+    requires { Lent x.now.image.now x.now.trailer masks.old }
+    ensures { Filled (tables x.now) (row_count x.now.trailer) masks.new }
 {
-    let n = row_count(image, i) as usize;
-    fill_rows(image, i, &mut masks[..n]);
+    let n = x.row_count() as usize;
+    fill_rows(x, &mut masks[..n]);
 }
 
 // The mask of the parameters, from the last variable down, as its definition goes.
-pub fn parameters(image: &[u8], i: Image) -> u64
-    requires { Formed image.now i }
-    ensures { result ≡ parameters_of (tables_of image.now).variables }
+pub fn parameters(x: &Automaton) -> u64
+    requires { Formed x.now.image.now x.now.trailer }
+    ensures { result ≡ parameters_of (tables x.now).variables }
 {
     let mut m: u64 = 0;
-    for v in (0..variable_count(image, i)).rev() {
-        m = m * 2 + parameter(image, i, v) as u64;
+    for v in (0..x.variable_count()).rev() {
+        m = m * 2 + x.parameter(v) as u64;
     }
     m
 }

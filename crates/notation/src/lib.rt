@@ -2,8 +2,8 @@
 #![tactic(auto)]
 
 ghost use Rattle.std.specs.Prelude.{◌≡◌, ◌++◌, ◌<◌};
-ghost use Rattle.model.specs.Image.{tables_of, fields_of};
-ghost use Rattle.image.specs.Located.{Located};
+ghost use Rattle.model.specs.Image.{fields_of};
+ghost use Rattle.image.specs.Located.{tables, Located};
 ghost use Rattle.text.specs.Emit.{page, Emitted};
 ghost use Rattle.text.specs.Written.{Written};
 ghost use Rattle.notation.specs.Table.{notation};
@@ -11,7 +11,7 @@ ghost use Rattle.notation.specs.Texts.{line_from, filled, row_text};
 ghost use Rattle.notation.specs.Whole.{explained};
 ghost use Rattle.listing.specs.Gave.{Gave};
 
-use image::{fields, row_count, trailer};
+use image::{Automaton, trailer};
 use marks::{aim, line, notation_byte, put_lead, put_plain, row_line};
 use model::{Fields, Image, Refusal};
 use ntif::check;
@@ -48,13 +48,13 @@ pub struct Filling {
 }
 
 // The fields of a row; zeros where there is no such row.
-pub fn row_fields(image: &[u8], i: Image, r: u16) -> Fields
-    requires { Located image.now i }
-    ensures { result ≡ fields_of (tables_of image.now) r }
+pub fn row_fields(x: &Automaton, r: u16) -> Fields
+    requires { Located x.now.image.now x.now.trailer }
+    ensures { result ≡ fields_of (tables x.now) r }
 {
-    let n = row_count(image, i);
+    let n = x.row_count();
     if r < n {
-        return fields(image, i, r);
+        return x.fields(r);
     }
     Fields {
         code: 0,
@@ -66,9 +66,9 @@ pub fn row_fields(image: &[u8], i: Image, r: u16) -> Fields
 
 // A row's text, while rows are left to be gone through.
 #[cycle(put_filled_put_row)]
-fn put_row(image: &[u8], i: Image, st: Style, a: Aim, left: u16, page: &mut Page<'_>)
-    requires { 0 < left → Located image.now i }
-    ensures { Written (row_text left (tables_of image.now) st a) page.old page.new }
+fn put_row(x: &Automaton, st: Style, a: Aim, left: u16, page: &mut Page<'_>)
+    requires { 0 < left → Located x.now.image.now x.now.trailer }
+    ensures { Written (row_text left (tables x.now) st a) page.old page.new }
 {
     if left == 0 {
         return;
@@ -76,17 +76,16 @@ fn put_row(image: &[u8], i: Image, st: Style, a: Aim, left: u16, page: &mut Page
     if a.row == Image::NONE {
         return;
     }
-    let w = row_fields(image, i, a.row);
+    let w = row_fields(x, a.row);
     let k = row_line(w) as u32 + a.shift as u32;
     put_lead(page, a.lead);
-    put_filled(image, i, st, a, w, k, left - 1, page);
+    put_filled(x, st, a, w, k, left - 1, page);
 }
 
 // A line of the notation, filled in.
 #[cycle(put_filled_put_row)]
 pub(crate) fn put_filled(
-    image: &[u8],
-    i: Image,
+    x: &Automaton,
     st: Style,
     a: Aim,
     w: Fields,
@@ -94,20 +93,20 @@ pub(crate) fn put_filled(
     left: u16,
     page: &mut Page<'_>,
 )
-    requires { 0 < left → Located image.now i }
-    ensures { Written (filled (λ t. row_text left (tables_of image.now) st t) st a w (line_from k notation)) page.old page.new }
+    requires { 0 < left → Located x.now.image.now x.now.trailer }
+    ensures { Written (filled (λ t. row_text left (tables x.now) st t) st a w (line_from k notation)) page.old page.new }
 {
     let mut j = line(k);
     let mut b = notation_byte(j);
     while b != b'\n' {
         put_plain(page, st, a, w, b);
-        put_row(image, i, st, aim(a, w, b), left, page);
+        put_row(x, st, aim(a, w, b), left, page);
         j += 1;
         b = notation_byte(j);
     }
 }
 
-// What is written of an image, by what check gave with room for 64 sets.
+// What is written of an x.image, by what check gave with room for 64 sets.
 fn put_explained(image: &[u8], v: Result<(), Refusal>, sets: &[u64], page: &mut Page<'_>)
     requires { Gave image.now v sets.now }
     ensures { Written (explained image.now) page.old page.new }
@@ -121,14 +120,17 @@ fn put_explained(image: &[u8], v: Result<(), Refusal>, sets: &[u64], page: &mut 
             put_refusal(y, st, page);
         }
         Ok(()) => {
-            let i = trailer(image);
+            let x = Automaton {
+                image,
+                trailer: trailer(image),
+            };
             let st = Style {
                 place: Image::NONE,
                 state: Image::NONE,
                 graph: false,
             };
-            put_listing(image, i, st, page);
-            put_accepted(image, i, st, sets, page);
+            put_listing(&x, st, page);
+            put_accepted(&x, st, sets, page);
         }
     }
 }

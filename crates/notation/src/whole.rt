@@ -1,7 +1,7 @@
 // The parts of what is written of an image.
 ghost use Rattle.std.specs.Prelude.{◌≡◌, ◌<◌, ◌≤◌, min, length};
-ghost use Rattle.model.specs.Image.{trailer_of, tables_of, variable_count, state_count};
-ghost use Rattle.image.specs.Located.{Located};
+ghost use Rattle.model.specs.Image.{trailer_of, variable_count, state_count};
+ghost use Rattle.image.specs.Located.{tables, Located};
 ghost use Rattle.text.specs.Written.{Written};
 ghost use Rattle.notation.specs.Texts.{each};
 ghost use Rattle.notation.specs.Whole.{fields_with, words_text, length_text, trailer_text, tables_text, roots_text, raw_text, listing_text, member_text, set_text, accepted_text, refusal_text, row_place, state_place, pointing, shown_text};
@@ -13,7 +13,7 @@ use crate::lines::{
     SET, SET_END, STARTS, STATE, STATE_ROW, STATES, TYPE_TABLE, TYPES, VARIABLE_TABLE, VARIABLES,
 };
 use crate::tables::{put_line, put_table, put_words};
-use image::trailer;
+use image::{Automaton, trailer};
 use masks::{bit, inside};
 use model::{Fields, Image, Refusal};
 use text::Page;
@@ -50,51 +50,51 @@ fn put_trailer(i: Image, st: Style, page: &mut Page<'_>)
     put_said(st, LENGTH, i.length, 0, 0, 0, page);
 }
 
-fn put_tables(image: &[u8], i: Image, st: Style, page: &mut Page<'_>)
-    requires { Located image.now i }
-    ensures { Written (tables_text (tables_of image.now) i st) page.old page.new }
+fn put_tables(x: &Automaton, st: Style, page: &mut Page<'_>)
+    requires { Located x.now.image.now x.now.trailer }
+    ensures { Written (tables_text (tables x.now) x.now.trailer st) page.old page.new }
 {
-    put_trailer(i, st, page);
+    put_trailer(x.trailer, st, page);
     put_said(st, TYPES, 0, 0, 0, 0, page);
-    put_table(image, i, st, TYPE_TABLE, page);
+    put_table(x, st, TYPE_TABLE, page);
     put_said(st, VARIABLES, 0, 0, 0, 0, page);
-    put_table(image, i, st, VARIABLE_TABLE, page);
-    put_said(st, GATES, i.gates, 0, 0, 0, page);
+    put_table(x, st, VARIABLE_TABLE, page);
+    put_said(st, GATES, x.trailer.gates, 0, 0, 0, page);
 }
 
-fn put_roots(image: &[u8], i: Image, st: Style, page: &mut Page<'_>)
-    requires { Located image.now i }
-    ensures { Written (roots_text (tables_of image.now) i st) page.old page.new }
+fn put_roots(x: &Automaton, st: Style, page: &mut Page<'_>)
+    requires { Located x.now.image.now x.now.trailer }
+    ensures { Written (roots_text (tables x.now) x.now.trailer st) page.old page.new }
 {
     put_said(st, STATES, 0, 0, 0, 0, page);
-    put_table(image, i, st, STATE_ROW, page);
-    let states = (i.rows - i.states) / 2;
-    put_said(st, CONDITION_ROW, i.condition, 0, 0, states, page);
+    put_table(x, st, STATE_ROW, page);
+    let states = (x.trailer.rows - x.trailer.states) / 2;
+    put_said(st, CONDITION_ROW, x.trailer.condition, 0, 0, states, page);
 }
 
-fn put_raw(image: &[u8], i: Image, st: Style, page: &mut Page<'_>)
-    requires { Located image.now i }
-    ensures { Written (raw_text (tables_of image.now) i st) page.old page.new }
+fn put_raw(x: &Automaton, st: Style, page: &mut Page<'_>)
+    requires { Located x.now.image.now x.now.trailer }
+    ensures { Written (raw_text (tables x.now) x.now.trailer st) page.old page.new }
 {
-    put_tables(image, i, st, page);
-    put_roots(image, i, st, page);
+    put_tables(x, st, page);
+    put_roots(x, st, page);
     put_said(st, ROWS, 0, 0, 0, 0, page);
-    put_table(image, i, st, ROW_TABLE, page);
+    put_table(x, st, ROW_TABLE, page);
 }
 
-pub(crate) fn put_listing(image: &[u8], i: Image, st: Style, page: &mut Page<'_>)
-    requires { Located image.now i }
-    ensures { Written (listing_text (tables_of image.now) i st) page.old page.new }
+pub(crate) fn put_listing(x: &Automaton, st: Style, page: &mut Page<'_>)
+    requires { Located x.now.image.now x.now.trailer }
+    ensures { Written (listing_text (tables x.now) x.now.trailer st) page.old page.new }
 {
-    put_tables(image, i, st, page);
+    put_tables(x, st, page);
     let w = Fields {
         code: 0,
-        a: i.condition,
+        a: x.trailer.condition,
         b: 0,
         c: 0,
     };
-    put_line(image, i, st, CONDITION, w, 0, page);
-    put_table(image, i, st, STATE, page);
+    put_line(x, st, CONDITION, w, 0, page);
+    put_table(x, st, STATE, page);
 }
 
 fn put_member(mask: u64, v: u16, page: &mut Page<'_>)
@@ -137,12 +137,12 @@ fn put_sets(st: Style, n: u16, sets: &[u64], states: u16, page: &mut Page<'_>)
 }
 
 // An accepted image's sets.
-pub(crate) fn put_accepted(image: &[u8], i: Image, st: Style, sets: &[u64], page: &mut Page<'_>)
-    requires { Located image.now i × (64 ≤ length sets.now) }
-    ensures { Written (accepted_text st i sets.now) page.old page.new }
+pub(crate) fn put_accepted(x: &Automaton, st: Style, sets: &[u64], page: &mut Page<'_>)
+    requires { Located x.now.image.now x.now.trailer × (64 ≤ length sets.now) }
+    ensures { Written (accepted_text st x.now.trailer sets.now) page.old page.new }
 {
-    let variables = (i.states - i.variables) / 4;
-    let states = (i.rows - i.states) / 2;
+    let variables = (x.trailer.states - x.trailer.variables) / 4;
+    let states = (x.trailer.rows - x.trailer.states) / 2;
     put_said(st, ACCEPTED, 0, 0, 0, 0, page);
     put_sets(st, variables, sets, states, page);
 }
@@ -203,14 +203,17 @@ pub(crate) fn put_shown(image: &[u8], st: Style, n: u16, page: &mut Page<'_>)
     if n < 3 {
         return put_length(image, st, page);
     }
-    let i = trailer(image);
+    let x = Automaton {
+        image,
+        trailer: trailer(image),
+    };
     if n < 4 {
-        put_trailer(i, st, page);
+        put_trailer(x.trailer, st, page);
     } else if n < 5 {
-        put_tables(image, i, st, page);
+        put_tables(&x, st, page);
     } else if n < 8 {
-        put_raw(image, i, st, page);
+        put_raw(&x, st, page);
     } else {
-        put_listing(image, i, st, page);
+        put_listing(&x, st, page);
     }
 }

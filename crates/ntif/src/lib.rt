@@ -6,7 +6,7 @@ ghost use Rattle.model.specs.Answers.{state};
 ghost use Rattle.model.specs.Calls.{check, start, step};
 ghost use Rattle.model.specs.Exports.{pack_refusal, pack_verdict, pack_stepped, check_bytes, start_bytes, step_bytes};
 
-use image::{state_count, trailer};
+use image::{Automaton, trailer};
 use model::{Image, Move, Refusal, State};
 use stages::judge;
 use stepping::take_step;
@@ -32,8 +32,11 @@ fn check_on(image: &[u8], sets: &mut [u64], masks: &mut [u64]) -> Result<(), Ref
     match v {
         Err(_) => v,
         Ok(()) => {
-            let i = trailer(image);
-            copy(sets, masks, state_count(image, i) as usize);
+            let x = Automaton {
+                image,
+                trailer: trailer(image),
+            };
+            copy(sets, masks, x.state_count() as usize);
             v
         }
     }
@@ -73,8 +76,11 @@ fn check_bytes_on(image: &[u8], sets: &mut [u8], masks: &mut [u64]) -> u64
     match v {
         Err(_) => pack_verdict(v),
         Ok(()) => {
-            let i = trailer(image);
-            put_masks(sets, masks, state_count(image, i) as usize);
+            let x = Automaton {
+                image,
+                trailer: trailer(image),
+            };
+            put_masks(sets, masks, x.state_count() as usize);
             pack_verdict(v)
         }
     }

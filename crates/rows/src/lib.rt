@@ -3,16 +3,15 @@
 
 ghost use Rattle.std.specs.Prelude.{◌≡◌, ◌<◌, length};
 ghost use Rattle.model.specs.Answers.{lowest_failing};
-ghost use Rattle.model.specs.Image.{tables_of};
 ghost use Rattle.model.specs.Rows.{Kind, number_of_kind, is_root};
 ghost use Rattle.model.specs.Calls.{rows_verdict};
-ghost use Rattle.image.specs.Located.{Located};
+ghost use Rattle.image.specs.Located.{tables, Located};
 ghost use Rattle.rows.specs.Judged.{Reading, rooted};
 
 use fits::{malformed, names};
-use image::{row_count, state_count, state_row};
+use image::Automaton;
 use lines::{ACTION, CODES, EXPRESSION, LINES};
-use model::{Image, Refusal, Row, State};
+use model::{Refusal, Row, State};
 use once::not_once;
 
 mod fits;
@@ -20,57 +19,57 @@ mod lines;
 mod once;
 
 // A row of kind k.
-fn is_root(image: &[u8], i: Image, lines: &[u32; CODES], k: u32, r: u16) -> bool
-    requires { Reading image.now lines.now i }
-    ensures { (j : Kind) → k ≡ number_of_kind j → result ≡ is_root (tables_of image.now) j r }
+fn is_root(x: &Automaton, lines: &[u32; CODES], k: u32, r: u16) -> bool
+    requires { Reading x.now.image.now lines.now x.now.trailer }
+    ensures { (j : Kind) → k ≡ number_of_kind j → result ≡ is_root (tables x.now) j r }
 {
-    let n = row_count(image, i);
-    names(image, i, lines, n, k, r)
+    let n = x.row_count();
+    names(x, lines, n, k, r)
 }
 
 // State q's row is an action.
-fn rooted(image: &[u8], i: Image, lines: &[u32; CODES], q: u16) -> bool
-    requires { Reading image.now lines.now i × (q < length (tables_of image.now).states) }
-    ensures { result ≡ rooted (tables_of image.now) q }
+fn rooted(x: &Automaton, lines: &[u32; CODES], q: u16) -> bool
+    requires { Reading x.now.image.now lines.now x.now.trailer × (q < length (tables x.now).states) }
+    ensures { result ≡ rooted (tables x.now) q }
 {
-    is_root(image, i, lines, ACTION, state_row(image, i, q))
+    is_root(x, lines, ACTION, x.state_row(q))
 }
 
 // The lowest of the n states whose row is no action.
-fn not_rooted(image: &[u8], i: Image, lines: &[u32; CODES], n: u16) -> Option<u16>
-    requires { Reading image.now lines.now i × (n ≡ length (tables_of image.now).states) }
-    ensures { result ≡ lowest_failing (rooted (tables_of image.now)) n }
+fn not_rooted(x: &Automaton, lines: &[u32; CODES], n: u16) -> Option<u16>
+    requires { Reading x.now.image.now lines.now x.now.trailer × (n ≡ length (tables x.now).states) }
+    ensures { result ≡ lowest_failing (rooted (tables x.now)) n }
 {
-    (0..n).find(|q| !rooted(image, i, lines, *q))
+    (0..n).find(|q| !rooted(x, lines, *q))
 }
 
 // 5, then 6, then 7, each at the lowest place, by the table of codes.
-fn verdict_by(image: &[u8], i: Image, lines: &[u32; CODES]) -> Result<(), Refusal>
-    requires { Reading image.now lines.now i }
-    ensures { result ≡ rows_verdict (tables_of image.now) }
+fn verdict_by(x: &Automaton, lines: &[u32; CODES]) -> Result<(), Refusal>
+    requires { Reading x.now.image.now lines.now x.now.trailer }
+    ensures { result ≡ rows_verdict (tables x.now) }
 {
-    let rows = row_count(image, i);
-    if let Some(r) = malformed(image, i, lines, rows) {
+    let rows = x.row_count();
+    if let Some(r) = malformed(x, lines, rows) {
         return Err(Refusal::Malformed(Row(r)));
     }
-    let states = state_count(image, i);
-    if let Some(q) = not_rooted(image, i, lines, states) {
+    let states = x.state_count();
+    if let Some(q) = not_rooted(x, lines, states) {
         return Err(Refusal::NoAction(State(q)));
     }
-    if !is_root(image, i, lines, EXPRESSION, i.condition) {
+    if !is_root(x, lines, EXPRESSION, x.trailer.condition) {
         return Err(Refusal::NoCondition(states));
     }
-    if let Some(m) = not_once(image, i, lines, rows) {
+    if let Some(m) = not_once(x, lines, rows) {
         return Err(Refusal::NotNamedOnce(Row(m)));
     }
     Ok(())
 }
 
-// What 5 to 7 give of an image that is past 1 to 3.
-pub fn rows_verdict(image: &[u8], i: Image) -> Result<(), Refusal>
-    requires { Located image.now i }
-    ensures { result ≡ rows_verdict (tables_of image.now) }
+// What 5 to 7 give of an x.image that is past 1 to 3.
+pub fn rows_verdict(x: &Automaton) -> Result<(), Refusal>
+    requires { Located x.now.image.now x.now.trailer }
+    ensures { result ≡ rows_verdict (tables x.now) }
 {
     let lines = LINES;
-    verdict_by(image, i, &lines)
+    verdict_by(x, &lines)
 }

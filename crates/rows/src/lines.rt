@@ -1,12 +1,10 @@
 // The table of codes, in numbers.
 ghost use Rattle.std.specs.Prelude.{◌≡◌};
-ghost use Rattle.model.specs.Image.{tables_of};
 ghost use Rattle.model.specs.Rows.{kind_of, shape_of, means_at, number_of_kind};
-ghost use Rattle.image.specs.Located.{RowOf};
+ghost use Rattle.image.specs.Located.{tables, RowOf};
 ghost use Rattle.rows.specs.Lines.{Table, Tells};
 
-use image::code;
-use model::Image;
+use image::Automaton;
 
 // The codes are below it.
 pub const CODES: usize = 61;
@@ -125,11 +123,11 @@ pub fn line_of(lines: &[u32; CODES], code: u16) -> Line
 }
 
 // The kind of a row.
-pub fn kind(image: &[u8], i: Image, lines: &[u32; CODES], r: u16) -> u32
-    requires { RowOf image.now i r × Table lines.now }
-    ensures { result ≡ number_of_kind (kind_of (means_at (tables_of image.now) r)) }
+pub fn kind(x: &Automaton, lines: &[u32; CODES], r: u16) -> u32
+    requires { RowOf x.now.image.now x.now.trailer r × Table lines.now }
+    ensures { result ≡ number_of_kind (kind_of (means_at (tables x.now) r)) }
 {
-    let c = code(image, i, r);
+    let c = x.code(r);
     let l = line_of(lines, c);
     l.kind
 }

@@ -2,7 +2,7 @@
 ghost use Rattle.std.specs.Prelude.{◌≡◌, ◌+◌, ◌*◌, ◌≤◌, min};
 
 use crate::line;
-use image::trailer;
+use image::{Automaton, trailer};
 use model::{Image, Move, Refusal, State};
 use ntif::{check, start, step};
 use std::io;
@@ -27,11 +27,14 @@ fn variables(image: &[u8]) -> usize
     if image.len() < 16 {
         return 0;
     }
-    let i = trailer(image);
-    if i.states < i.variables {
+    let x = Automaton {
+        image,
+        trailer: trailer(image),
+    };
+    if x.trailer.states < x.trailer.variables {
         return 0;
     }
-    let n = ((i.states - i.variables) / 4) as usize;
+    let n = ((x.trailer.states - x.trailer.variables) / 4) as usize;
     if VARIABLES < n {
         return VARIABLES;
     }

@@ -3,15 +3,16 @@
 
 mod flow;
 
+ghost use Rattle.image.specs.Located.{tables};
 ghost use Rattle.std.specs.Prelude.{◌≡◌, ◌<◌};
 ghost use Rattle.model.specs.Image.{tables_of};
 ghost use Rattle.model.specs.Largest.{begun};
 ghost use Rattle.sets.specs.States.{Lowest, Marked, Beginning, Staged, Settled, Judged, EachState, Room, Found};
 
 use flow::{Lent, walk};
-use image::{row_count, state_count, state_row, variable_count};
+use image::Automaton;
 use masks::{Masks, bit, full, parameters, without};
-use model::{Image, Refusal, State};
+use model::{Refusal, State};
 
 // The lowest in the mask.
 fn lowest(m: u64) -> u16
@@ -22,12 +23,12 @@ fn lowest(m: u64) -> u16
 }
 
 // At first the parameters at state 0, all variables elsewhere.
-fn begin(image: &[u8], i: Image, top: u64, sets: &mut [u64])
-    requires { Beginning image.now i top sets.old }
-    ensures { sets.new ≡ begun (tables_of image.now) }
+fn begin(x: &Automaton, top: u64, sets: &mut [u64])
+    requires { Beginning x.now.image.now x.now.trailer top sets.old }
+    ensures { sets.new ≡ begun (tables x.now) }
 {
     sets.fill(top);
-    sets[0] = parameters(image, i);
+    sets[0] = parameters(x);
 }
 
 // The mask of the states that err, once s is judged.
@@ -67,21 +68,13 @@ fn settle(lent: &Lent, sets: &mut [u64]) -> u64
 }
 
 // The sets and 11, with the masks of every row and no more, and a set for each state.
-fn initialisation(image: &[u8], i: Image, masks: &[Masks], sets: &mut [u64]) -> Result<(), Refusal>
-    requires { EachState image.now i masks.now sets.old }
-    ensures { Judged (tables_of image.now) result sets.new }
+fn initialisation(x: &Automaton, masks: &[Masks], sets: &mut [u64]) -> Result<(), Refusal>
+    requires { EachState x.now.image.now x.now.trailer masks.now sets.old }
+    ensures { Judged (tables x.now) result sets.new }
 {
-    let top = full(variable_count(image, i));
-    begin(image, i, top, sets);
-    let wrong = settle(
-        &Lent {
-            image,
-            i,
-            masks,
-            top,
-        },
-        sets,
-    );
+    let top = full(x.variable_count());
+    begin(x, top, sets);
+    let wrong = settle(&Lent { x, masks, top }, sets);
     if wrong == 0 {
         return Ok(());
     }
@@ -89,16 +82,11 @@ fn initialisation(image: &[u8], i: Image, masks: &[Masks], sets: &mut [u64]) -> 
 }
 
 // The largest sets that fit, in the first entries lent, and 11 judged with them.
-pub fn sets_verdict(
-    image: &[u8],
-    i: Image,
-    masks: &[Masks],
-    sets: &mut [u64],
-) -> Result<(), Refusal>
-    requires { Room image.now i masks.now sets.old }
-    ensures { Found (tables_of image.now) result sets.old sets.new }
+pub fn sets_verdict(x: &Automaton, masks: &[Masks], sets: &mut [u64]) -> Result<(), Refusal>
+    requires { Room x.now.image.now x.now.trailer masks.now sets.old }
+    ensures { Found (tables x.now) result sets.old sets.new }
 {
-    let rows = row_count(image, i) as usize;
-    let states = state_count(image, i) as usize;
-    initialisation(image, i, &masks[..rows], &mut sets[..states])
+    let rows = x.row_count() as usize;
+    let states = x.state_count() as usize;
+    initialisation(x, &masks[..rows], &mut sets[..states])
 }

@@ -1,6 +1,7 @@
 // The actions that hold no other: null, assignment, any, reset, communication, jump.
 #![tactic(auto)]
 
+ghost use Rattle.image.specs.Located.{tables};
 ghost use Rattle.std.specs.Prelude.{◌≡◌, ◌≤◌, length};
 ghost use Rattle.model.specs.Image.{trailer_of, tables_of};
 ghost use Rattle.model.specs.Rows.{gets};
@@ -12,8 +13,8 @@ ghost use Rattle.simple.specs.Simple.{Simple, Worded, Assigning, Assigned};
 
 use actions::{Ran, Run, assign, choose, reset};
 use expressions::row;
-use image::trailer;
-use model::{Image, Outcome, Refusal, Row, State};
+use image::{Automaton, trailer};
+use model::{Outcome, Refusal, Row, State};
 use offers::communicate;
 use told::{ENDS, Slots, Values, put, stopped, taken, told};
 
@@ -30,25 +31,24 @@ fn run_assign(image: &[u8], rows: u16, r: u16, first: u16, store: &mut [i32]) ->
 
 // Any and communication, which read words.
 fn read_on(
-    image: &[u8],
-    i: Image,
+    x: &Automaton,
     r: u16,
     store: &mut [i32],
     script: &[u8],
     values: &mut [i32],
     run: Run,
 ) -> Ran
-    requires { Worded image.now i r store.old values.old }
-    ensures { result_of result store.new values.new ≡ exec_act (tables_of image.now) (act_of (action_at (tables_of image.now) r)) script.now r (state_of run store.old values.old) }
+    requires { Worded x.now.image.now x.now.trailer r store.old values.old }
+    ensures { result_of result store.new values.new ≡ exec_act (tables x.now) (act_of (action_at (tables x.now) r)) script.now r (state_of run store.old values.old) }
 {
-    let w = row(image, i.rows, r);
+    let w = row(x.image, x.trailer.rows, r);
     if w.code == 50 {
-        return choose(image, i, r, w, store, script, run);
+        return choose(x, r, w, store, script, run);
     }
-    communicate(image, i, r, w, store, script, values, run)
+    communicate(x, r, w, store, script, values, run)
 }
 
-// The same, with the run's state taken out of its slots and put back. An image made anew is handed on in registers.
+// The same, with the run's state taken out of its slots and put back. An x.image made anew is handed on in registers.
 fn run_worded(
     image: &[u8],
     r: u16,

@@ -2,13 +2,12 @@
 #![tactic(auto)]
 
 ghost use Rattle.std.specs.Prelude.{◌≡◌};
-ghost use Rattle.model.specs.Image.{tables_of};
 ghost use Rattle.model.specs.Rows.{expression, pattern, gets, of_type, range, arm};
 ghost use Rattle.model.specs.Typing.{typed};
-ghost use Rattle.image.specs.Located.{Rooted};
+ghost use Rattle.image.specs.Located.{tables, Rooted};
 ghost use Rattle.typing.specs.Rules.{typing_verdict, row_typed, expression_type, condition_type, pattern_type, gets_typed, of_types_typed, arms_typed, range_typed, operand_of, result_of, takes_types, Operator, FormedRow, OfKind, OrNone, RootedRow};
 
-use image::{fields, row_count, variable_type};
+use image::Automaton;
 use model::{Image, Refusal, Row};
 
 const TAU: u16 = 0;
@@ -73,41 +72,41 @@ fn takes(code: u16, s: u16, t: u16) -> bool
 }
 
 // type(E) of an expression's row.
-pub fn type_of_expression(image: &[u8], i: Image, r: u16) -> u16
-    requires { OfKind image.now i expression r }
-    ensures { result ≡ expression_type (tables_of image.now) r }
+pub fn type_of_expression(x: &Automaton, r: u16) -> u16
+    requires { OfKind x.now.image.now x.now.trailer expression r }
+    ensures { result ≡ expression_type (tables x.now) r }
 {
-    let w = fields(image, i, r);
+    let w = x.fields(r);
     let code = w.code;
     match code {
-        1 => variable_type(image, i, w.a),
+        1 => x.variable_type(w.a),
         2 => w.a,
         _ => result_type(code),
     }
 }
 
 // The same of a condition; one that is left out counts as true.
-fn type_of_condition(image: &[u8], i: Image, r: u16) -> u16
-    requires { OrNone image.now i expression r }
-    ensures { result ≡ condition_type (tables_of image.now) r }
+fn type_of_condition(x: &Automaton, r: u16) -> u16
+    requires { OrNone x.now.image.now x.now.trailer expression r }
+    ensures { result ≡ condition_type (tables x.now) r }
 {
     if r == Image::NONE {
         return Image::BOOL;
     }
-    type_of_expression(image, i, r)
+    type_of_expression(x, r)
 }
 
 // type(P) of a pattern's row: that of the pattern inside its conditions.
-pub fn type_of_pattern(image: &[u8], i: Image, r: u16) -> u16
-    requires { OfKind image.now i pattern r }
-    ensures { result ≡ pattern_type (tables_of image.now) r }
+pub fn type_of_pattern(x: &Automaton, r: u16) -> u16
+    requires { OfKind x.now.image.now x.now.trailer pattern r }
+    ensures { result ≡ pattern_type (tables x.now) r }
 {
     let mut at = r;
     loop {
-        let w = fields(image, i, at);
+        let w = x.fields(at);
         let code = w.code;
         match code {
-            33 => return variable_type(image, i, w.a),
+            33 => return x.variable_type(w.a),
             35 => at = w.a,
             _ => return w.a,
         }
@@ -115,14 +114,14 @@ pub fn type_of_pattern(image: &[u8], i: Image, r: u16) -> u16
 }
 
 // Each item's expression is of its variable's type.
-fn gets_typed(image: &[u8], i: Image, r: u16) -> bool
-    requires { OrNone image.now i gets r }
-    ensures { result ≡ gets_typed (tables_of image.now) r }
+fn gets_typed(x: &Automaton, r: u16) -> bool
+    requires { OrNone x.now.image.now x.now.trailer gets r }
+    ensures { result ≡ gets_typed (tables x.now) r }
 {
     let mut at = r;
     while at != Image::NONE {
-        let w = fields(image, i, at);
-        if type_of_expression(image, i, w.b) != variable_type(image, i, w.a) {
+        let w = x.fields(at);
+        if type_of_expression(x, w.b) != x.variable_type(w.a) {
             return false;
         }
         at = w.c;
@@ -131,14 +130,14 @@ fn gets_typed(image: &[u8], i: Image, r: u16) -> bool
 }
 
 // Each item's type is its variable's.
-fn of_types_typed(image: &[u8], i: Image, r: u16) -> bool
-    requires { OrNone image.now i of_type r }
-    ensures { result ≡ of_types_typed (tables_of image.now) r }
+fn of_types_typed(x: &Automaton, r: u16) -> bool
+    requires { OrNone x.now.image.now x.now.trailer of_type r }
+    ensures { result ≡ of_types_typed (tables x.now) r }
 {
     let mut at = r;
     while at != Image::NONE {
-        let w = fields(image, i, at);
-        if variable_type(image, i, w.a) != w.b {
+        let w = x.fields(at);
+        if x.variable_type(w.a) != w.b {
             return false;
         }
         at = w.c;
@@ -147,14 +146,14 @@ fn of_types_typed(image: &[u8], i: Image, r: u16) -> bool
 }
 
 // Each arm's pattern is of the type t.
-fn arms_typed(image: &[u8], i: Image, t: u16, r: u16) -> bool
-    requires { OrNone image.now i arm r }
-    ensures { result ≡ arms_typed (tables_of image.now) t r }
+fn arms_typed(x: &Automaton, t: u16, r: u16) -> bool
+    requires { OrNone x.now.image.now x.now.trailer arm r }
+    ensures { result ≡ arms_typed (tables x.now) t r }
 {
     let mut at = r;
     while at != Image::NONE {
-        let w = fields(image, i, at);
-        if type_of_pattern(image, i, w.a) != t {
+        let w = x.fields(at);
+        if type_of_pattern(x, w.a) != t {
             return false;
         }
         at = w.c;
@@ -163,57 +162,53 @@ fn arms_typed(image: &[u8], i: Image, t: u16, r: u16) -> bool
 }
 
 // "A range's variable is int."
-fn range_typed(image: &[u8], i: Image, r: u16) -> bool
-    requires { OfKind image.now i range r }
-    ensures { result ≡ range_typed (tables_of image.now) r }
+fn range_typed(x: &Automaton, r: u16) -> bool
+    requires { OfKind x.now.image.now x.now.trailer range r }
+    ensures { result ≡ range_typed (tables x.now) r }
 {
-    let w = fields(image, i, r);
-    variable_type(image, i, w.a) == Image::INT
+    let w = x.fields(r);
+    x.variable_type(w.a) == Image::INT
 }
 
 // The rule of a row, from the types of the rows that it names.
-fn row_typed(image: &[u8], i: Image, r: u16) -> bool
-    requires { FormedRow image.now i r }
-    ensures { result ≡ row_typed (tables_of image.now) r }
+fn row_typed(x: &Automaton, r: u16) -> bool
+    requires { FormedRow x.now.image.now x.now.trailer r }
+    ensures { result ≡ row_typed (tables x.now) r }
 {
-    let w = fields(image, i, r);
+    let w = x.fields(r);
     let code = w.code;
     match code {
-        16 | 19 => type_of_expression(image, i, w.a) == operand_type(code),
-        17 | 18 | 20..=27 => takes(
-            code,
-            type_of_expression(image, i, w.a),
-            type_of_expression(image, i, w.b),
-        ),
-        35 => type_of_expression(image, i, w.b) == Image::BOOL,
-        49 => gets_typed(image, i, w.a),
-        50 => of_types_typed(image, i, w.a) && type_of_condition(image, i, w.b) == Image::BOOL,
+        16 | 19 => type_of_expression(x, w.a) == operand_type(code),
+        17 | 18 | 20..=27 => takes(code, type_of_expression(x, w.a), type_of_expression(x, w.b)),
+        35 => type_of_expression(x, w.b) == Image::BOOL,
+        49 => gets_typed(x, w.a),
+        50 => of_types_typed(x, w.a) && type_of_condition(x, w.b) == Image::BOOL,
         52 => w.a != TAU || w.b == Image::NONE,
-        56 => arms_typed(image, i, type_of_expression(image, i, w.a), w.b),
-        59 => type_of_expression(image, i, w.a) == Image::BOOL,
-        60 => range_typed(image, i, w.a),
+        56 => arms_typed(x, type_of_expression(x, w.a), w.b),
+        59 => type_of_expression(x, w.a) == Image::BOOL,
+        60 => range_typed(x, w.a),
         _ => true,
     }
 }
 
 // The rule of a row, and the initial condition is bool.
-pub fn typed(image: &[u8], i: Image, r: u16) -> bool
-    requires { RootedRow image.now i r }
-    ensures { result ≡ typed (tables_of image.now) r }
+pub fn typed(x: &Automaton, r: u16) -> bool
+    requires { RootedRow x.now.image.now x.now.trailer r }
+    ensures { result ≡ typed (tables x.now) r }
 {
-    if r == i.condition && type_of_expression(image, i, r) != Image::BOOL {
+    if r == x.trailer.condition && type_of_expression(x, r) != Image::BOOL {
         return false;
     }
-    row_typed(image, i, r)
+    row_typed(x, r)
 }
 
 // 8 at the lowest row whose rule fails.
-pub fn typing_verdict(image: &[u8], i: Image) -> Result<(), Refusal>
-    requires { Rooted image.now i }
-    ensures { result ≡ typing_verdict (tables_of image.now) }
+pub fn typing_verdict(x: &Automaton) -> Result<(), Refusal>
+    requires { Rooted x.now.image.now x.now.trailer }
+    ensures { result ≡ typing_verdict (tables x.now) }
 {
-    let n = row_count(image, i);
-    match (0..n).find(|r| !typed(image, i, *r)) {
+    let n = x.row_count();
+    match (0..n).find(|r| !typed(x, *r)) {
         Some(r) => Err(Refusal::Typing(Row(r))),
         None => Ok(()),
     }

@@ -7,7 +7,7 @@ use Rattle.model.specs.Binding.{bound}
 use Rattle.binding.proofs.rows_verdict.Given as goal
 
 abbrev pub invariant-loop-r : goal.invariant-loop-r
-invariant-loop-r l = (l.r ≤ l.n) × (lowest (bound (tables_of l.image)) l.r ≡ l.r)
+invariant-loop-r l = (l.r ≤ l.n) × (lowest (bound (tables_of l.x.image.now)) l.r ≡ l.r)
 
 abbrev pub decreases-loop-r : goal.decreases-loop-r
 decreases-loop-r l = l.n - l.r

@@ -16,4 +16,4 @@ pub put_state_arrows-requires : goal.put_state_arrows-requires
 put_state_arrows-requires c = record { located = c.requires; inside = search rules }
 
 pub loop-q-preserved : goal.loop-q-preserved
-loop-q-preserved c = each_next (state_arrows (tables_of c.args.image.now)) c.loop-q.q c.loop-q.invariant c.put_state_arrows.ensures
+loop-q-preserved c = each_next (state_arrows (tables_of c.args.x.now.image.now)) c.loop-q.q c.loop-q.invariant c.put_state_arrows.ensures

@@ -6,8 +6,8 @@ use Rattle.text.proofs.Writing.{written-then}
 use Rattle.listing.proofs.Lines.{line-numbers}
 use Rattle.listing.proofs.put_line.Goals as goal
 
-pub overflow_sub-i : goal.overflow_sub-i
-overflow_sub-i c = let l = laid c.requires.located in omega (arith, l.states)
+pub overflow_sub-x : goal.overflow_sub-x
+overflow_sub-x c = let l = laid c.requires.located in omega (arith, l.states)
 
 pub returns-clause-most : goal.returns-clause-most
 returns-clause-most c =

@@ -20,5 +20,5 @@ put_line-requires c = record { located = c.requires.0; inside = search rules }
 
 pub loop-q-preserved : goal.loop-q-preserved
 loop-q-preserved c =
-    let e = lines_next (tables_of c.args.image.now).states (variable_count c.args.i) c.loop-q.q c.args.sets.now (search rules) in
+    let e = lines_next (tables_of c.args.x.now.image.now).states (variable_count c.args.x.now.trailer) c.loop-q.q c.args.sets.now (search rules) in
     (rw (e, length-append) (omega (arith, c.loop-q.invariant.0, c.put_line.ensures.most)), rw e (written-then c.loop-q.invariant.1 c.put_line.ensures.line))

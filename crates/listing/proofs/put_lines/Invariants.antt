@@ -7,5 +7,5 @@ use Rattle.listing.proofs.put_lines.Given as goal
 
 abbrev pub invariant-loop-q : goal.invariant-loop-q
 invariant-loop-q l =
-    let written = lines (tables_of l.image).states (variable_count l.i) 0 (take l.q l.sets) in
+    let written = lines (tables_of l.x.image.now).states (variable_count l.x.trailer) 0 (take l.q l.sets) in
     (length written ≤ 18 * l.q) × Written written l.initial.page l.page

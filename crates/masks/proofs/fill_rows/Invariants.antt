@@ -3,4 +3,4 @@ use Rattle.masks.proofs.Filling.{Filling}
 use Rattle.masks.proofs.fill_rows.Given as goal
 
 abbrev pub invariant-loop-r : goal.invariant-loop-r
-invariant-loop-r l = Filling l.image l.i l.r l.masks
+invariant-loop-r l = Filling l.x.image.now l.x.trailer l.r l.masks

@@ -15,7 +15,7 @@ decreases-put_filled l = 2 * l.left + 1
 
 abbrev pub invariant-put_filled-loop-b : goal.invariant-put_filled-loop-b
 invariant-put_filled-loop-b l = (l.b ≡ get_or notation l.j 10)
-    × Left (filled (λ t. row_text l.left (tables_of l.image) l.st t) l.st l.a l.w (line_from l.k notation)) l.initial.page (filled (λ t. row_text l.left (tables_of l.image) l.st t) l.st l.a l.w (drop l.j notation)) l.page
+    × Left (filled (λ t. row_text l.left (tables_of l.x.image.now) l.st t) l.st l.a l.w (line_from l.k notation)) l.initial.page (filled (λ t. row_text l.left (tables_of l.x.image.now) l.st t) l.st l.a l.w (drop l.j notation)) l.page
 
 abbrev pub decreases-put_filled-loop-b : goal.decreases-put_filled-loop-b
 decreases-put_filled-loop-b l = length notation - l.j

@@ -10,14 +10,14 @@ use Rattle.notation.proofs.put_explained.Goals as goal
 pub put_shown-requires : goal.put_shown-requires
 put_shown-requires c = rw c.number-n.ensures (gave-shown c.requires _ c.in-Err.is)
 
-pub trailer-i-requires : goal.trailer-i-requires
-trailer-i-requires c = let l = laid (gave-located c.requires _ c.in-Ok.is refl) in omega (arith, l.long)
+pub trailer-requires : goal.trailer-requires
+trailer-requires c = let l = laid (gave-located c.requires _ c.in-Ok.is refl) in omega (arith, l.long)
 
 pub put_listing-requires : goal.put_listing-requires
-put_listing-requires c = gave-located c.requires _ c.in-Ok.is c.trailer-i.ensures
+put_listing-requires c = gave-located c.requires _ c.in-Ok.is c.trailer.ensures
 
 pub put_accepted-requires : goal.put_accepted-requires
-put_accepted-requires c = (gave-located c.requires _ c.in-Ok.is c.trailer-i.ensures, c.requires.room)
+put_accepted-requires c = (gave-located c.requires _ c.in-Ok.is c.trailer.ensures, c.requires.room)
 
 pub returns-in-Err : goal.returns-in-Err
 unfolding explained_by
@@ -25,4 +25,4 @@ returns-in-Err c = rw (gave-explained c.requires, c.in-Err.is, ← c.number-n.en
 
 pub returns-in-Ok : goal.returns-in-Ok
 unfolding explained_by
-returns-in-Ok c = rw (gave-explained c.requires, c.in-Ok.is, ← c.trailer-i.ensures) (written-then c.put_listing.ensures c.put_accepted.ensures)
+returns-in-Ok c = rw (gave-explained c.requires, c.in-Ok.is, ← c.trailer.ensures) (written-then c.put_listing.ensures c.put_accepted.ensures)

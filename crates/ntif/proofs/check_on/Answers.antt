@@ -2,11 +2,11 @@ use native.Mathlib.Omega.{arith}
 use Rattle.ntif.proofs.Checking.{accepted-trailer, accepted-rooted, accepted-fits, accepted-most, checked_refused, checked-accepted}
 use Rattle.ntif.proofs.check_on.Goals as goal
 
-pub trailer-i-requires : goal.trailer-i-requires
-trailer-i-requires c = accepted-trailer _ _ c.judge-v.ensures.verdict c.in-Ok.is
+pub trailer-requires : goal.trailer-requires
+trailer-requires c = accepted-trailer _ _ c.judge-v.ensures.verdict c.in-Ok.is
 
 pub state_count-requires : goal.state_count-requires
-state_count-requires c = (accepted-rooted _ _ c.judge-v.ensures.verdict c.in-Ok.is _ c.trailer-i.ensures).formed.located
+state_count-requires c = (accepted-rooted _ _ c.judge-v.ensures.verdict c.in-Ok.is _ c.trailer.ensures).formed.located
 
 pub copy-requires : goal.copy-requires
 copy-requires c =

@@ -7,4 +7,4 @@ use Rattle.rows.specs.Judged.{rooted}
 use Rattle.rows.proofs.not_rooted.Goals as goal
 
 pub returns : goal.returns
-returns c = found (rooted (tables_of c.args.image.now)) _ _ _ c.find.ensures.ran (λ x b q k. search (rules, tests)) refl
+returns c = found (rooted (tables_of c.args.x.now.image.now)) _ _ _ c.find.ensures.ran (λ x b q k. search (rules, tests)) refl

@@ -14,7 +14,7 @@ full-top-requires c = let l = c.requires.rows.lending.rooted.formed.located in o
 pub begin-requires : goal.begin-requires
 begin-requires c =
     let d = c.requires in
-    record { formed = d.rows.lending.rooted.formed; all = top-is (tables_of c.args.image.now) _ _ c.variable_count.ensures c.full-top.ensures; size = d.size }
+    record { formed = d.rows.lending.rooted.formed; all = top-is (tables_of c.args.x.now.image.now) _ _ c.variable_count.ensures c.full-top.ensures; size = d.size }
 
 pub settle-wrong-requires : goal.settle-wrong-requires
 settle-wrong-requires c = record {

@@ -4,7 +4,7 @@ use Rattle.speech.proofs.Pass.{Passing}
 use Rattle.speech.proofs.fill.Given as goal
 
 abbrev pub invariant-loop-r : goal.invariant-loop-r
-invariant-loop-r l = Passing l.image l.i l.initial.ways l.n l.ways l.r
+invariant-loop-r l = Passing l.x.image.now l.x.trailer l.initial.ways l.n l.ways l.r
 
 abbrev pub decreases-loop-r : goal.decreases-loop-r
 decreases-loop-r l = l.n - l.r

@@ -4,7 +4,7 @@ use Rattle.speech.proofs.States.{Looking}
 use Rattle.speech.proofs.judged.Given as goal
 
 abbrev pub invariant-loop-s : goal.invariant-loop-s
-invariant-loop-s l = Looking l.image l.n l.s
+invariant-loop-s l = Looking l.x.image.now l.n l.s
 
 abbrev pub decreases-loop-s : goal.decreases-loop-s
 decreases-loop-s l = l.n - l.s

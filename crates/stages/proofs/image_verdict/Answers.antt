@@ -1,11 +1,11 @@
 use Rattle.stages.proofs.Stages.{trailer-there, rooted-there, to-ruling, image-stays, image-rules}
 use Rattle.stages.proofs.image_verdict.Goals as goal
 
-pub trailer-i-requires : goal.trailer-i-requires
-trailer-i-requires c = trailer-there _ c.tables-v.ensures c.in-Ok.is
+pub trailer-requires : goal.trailer-requires
+trailer-requires c = trailer-there _ c.tables-v.ensures c.in-Ok.is
 
 pub rules_sized-requires : goal.rules_sized-requires
-rules_sized-requires c = to-ruling (rooted-there _ _ c.trailer-i.ensures c.tables-v.ensures c.in-Ok.is)
+rules_sized-requires c = to-ruling (rooted-there _ _ c.trailer.ensures c.tables-v.ensures c.in-Ok.is)
 
 pub returns-in-Err : goal.returns-in-Err
 returns-in-Err c = image-stays _ _ c.tables-v.ensures c.in-Err.is

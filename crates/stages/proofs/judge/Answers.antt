@@ -1,11 +1,11 @@
 use Rattle.stages.proofs.Stages.{trailer-there, rooted-there, to-sized, judge-stays, judge-trees}
 use Rattle.stages.proofs.judge.Goals as goal
 
-pub trailer-i-requires : goal.trailer-i-requires
-trailer-i-requires c = trailer-there _ c.tables-v.ensures c.in-Ok.is
+pub trailer-requires : goal.trailer-requires
+trailer-requires c = trailer-there _ c.tables-v.ensures c.in-Ok.is
 
 pub sized-requires : goal.sized-requires
-sized-requires c = to-sized (rooted-there _ _ c.trailer-i.ensures c.tables-v.ensures c.in-Ok.is) c.requires
+sized-requires c = to-sized (rooted-there _ _ c.trailer.ensures c.tables-v.ensures c.in-Ok.is) c.requires
 
 pub returns-in-Err : goal.returns-in-Err
 returns-in-Err c = judge-stays _ _ _ _ c.tables-v.ensures c.in-Err.is

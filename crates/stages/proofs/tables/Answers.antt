@@ -2,11 +2,11 @@ use mathlib.Core.{Path.sym, Path.◌∙◌}
 use Rattle.stages.proofs.Stages.{trailer-inside, located-of, tables-stays, tables-rows}
 use Rattle.stages.proofs.tables.Goals as goal
 
-pub trailer-i-requires : goal.trailer-i-requires
-trailer-i-requires c = trailer-inside _ (sym c.header-v.ensures ∙ c.in-Ok.is)
+pub trailer-requires : goal.trailer-requires
+trailer-requires c = trailer-inside _ (sym c.header-v.ensures ∙ c.in-Ok.is)
 
 pub rows_verdict-requires : goal.rows_verdict-requires
-rows_verdict-requires c = located-of _ _ c.trailer-i.ensures (sym c.header-v.ensures ∙ c.in-Ok.is)
+rows_verdict-requires c = located-of _ _ c.trailer.ensures (sym c.header-v.ensures ∙ c.in-Ok.is)
 
 pub returns-in-Err : goal.returns-in-Err
 returns-in-Err c = tables-stays _ _ _ c.header-v.ensures c.in-Err.is

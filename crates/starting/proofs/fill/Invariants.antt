@@ -7,4 +7,4 @@ use Rattle.starting.proofs.Filling.{FilledTo}
 use Rattle.starting.proofs.fill.Given as goal
 
 abbrev pub invariant-loop-v : goal.invariant-loop-v
-invariant-loop-v l = (l.v ≤ l.count) × (length l.work ≡ length l.initial.work) × FilledTo (tables_of l.image).variables l.params l.work l.v l.k
+invariant-loop-v l = (l.v ≤ l.count) × (length l.work ≡ length l.initial.work) × FilledTo (tables_of l.x.image.now).variables l.params l.work l.v l.k

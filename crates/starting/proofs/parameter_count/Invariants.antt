@@ -5,4 +5,4 @@ use Rattle.starting.proofs.Filling.{Counted}
 use Rattle.starting.proofs.parameter_count.Given as goal
 
 abbrev pub invariant-loop-v : goal.invariant-loop-v
-invariant-loop-v l = (l.v ≤ l.count) × Counted (tables_of l.image).variables l.v l.n
+invariant-loop-v l = (l.v ≤ l.count) × Counted (tables_of l.x.image.now).variables l.v l.n

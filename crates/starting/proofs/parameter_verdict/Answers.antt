@@ -13,16 +13,16 @@ variable_count-count-requires c = located c.requires.cleared
 
 pub find-requires-clause-callable : goal.find-requires-clause-callable
 find-requires-clause-callable c =
-    serves_from_Range (λ x q k. search (rules, tests)) (λ x low high. let h : SlotOf c.args.image.now c.args.i c.args.work.now x = record { slotted = c.requires; inside = omega (arith, c.variable_count-count.ensures) } in search rules)
+    serves_from_Range (λ x q k. search (rules, tests)) (λ x low high. let h : SlotOf c.args.x.now.image.now c.args.x.now.trailer c.args.work.now x = record { slotted = c.requires; inside = omega (arith, c.variable_count-count.ensures) } in search rules)
 
 pub returns-in-Some : goal.returns-in-Some
 unfolding parameters_verdict
 returns-in-Some c =
-    let p = right_at (tables_of c.args.image.now) c.args.work.now in
+    let p = right_at (tables_of c.args.x.now.image.now) c.args.work.now in
     found-refused p _ _ (found p _ _ _ c.find.ensures.ran (λ x b q k. search (rules, tests)) c.variable_count-count.ensures) c.in-Some.is
 
 pub returns-in-None : goal.returns-in-None
 unfolding parameters_verdict
 returns-in-None c =
-    let p = right_at (tables_of c.args.image.now) c.args.work.now in
+    let p = right_at (tables_of c.args.x.now.image.now) c.args.work.now in
     none-accepted p _ _ (found p _ _ _ c.find.ensures.ran (λ x b q k. search (rules, tests)) c.variable_count-count.ensures) c.in-None.is

@@ -4,17 +4,17 @@ use Rattle.stages.proofs.Cleared.{cleared-long, to-cleared}
 use Rattle.stepping.proofs.Steps.{to-runs, image-refuses, run-refuses, step-runs}
 use Rattle.stepping.proofs.take_step.Goals as goal
 
-pub trailer-i-requires : goal.trailer-i-requires
-trailer-i-requires c =
+pub trailer-requires : goal.trailer-requires
+trailer-requires c =
     cleared-long _ c.image_verdict-v.ensures c.in-Ok.is
 
 pub run_verdict-u-requires : goal.run_verdict-u-requires
 run_verdict-u-requires c =
-    to-cleared (λ j. omega (arith, c.shared_slice_known-1.given j)) c.image_verdict-v.ensures c.in-Ok.is c.trailer-i.ensures
+    to-cleared (λ j. omega (arith, c.shared_slice_known-1.given j)) c.image_verdict-v.ensures c.in-Ok.is c.trailer.ensures
 
 pub run_step-requires : goal.run_step-requires
 run_step-requires c =
-    to-runs (to-cleared (λ j. omega (arith, c.shared_slice_known-1.given j)) c.image_verdict-v.ensures c.in-Ok.is c.trailer-i.ensures) c.run_verdict-u.ensures c.in-Ok-u.is
+    to-runs (to-cleared (λ j. omega (arith, c.shared_slice_known-1.given j)) c.image_verdict-v.ensures c.in-Ok.is c.trailer.ensures) c.run_verdict-u.ensures c.in-Ok-u.is
 
 pub returns-in-Err : goal.returns-in-Err
 returns-in-Err c =

@@ -13,22 +13,22 @@ fields-w-requires c = known-row refl (row-there c.loop-at.invariant c.loop-at-te
 
 pub type_of_pattern-requires : goal.type_of_pattern-requires
 type_of_pattern-requires c =
-    let here : Here c.args.image.now c.args.i c.loop-at.at c.fields-w.result = record { formed = c.loop-at.invariant.list.formed; fields = c.fields-w.ensures } in
+    let here : Here c.args.x.now.image.now c.args.x.now.trailer c.loop-at.at c.fields-w.result = record { formed = c.loop-at.invariant.list.formed; fields = c.fields-w.ensures } in
     arm-pattern _ (here) c.loop-at-test.true c.loop-at.invariant
 
 pub returns-then-type_of_pattern-t : goal.returns-then-type_of_pattern-t
 returns-then-type_of_pattern-t c =
-    let here : Here c.args.image.now c.args.i c.loop-at.at c.fields-w.result = record { formed = c.loop-at.invariant.list.formed; fields = c.fields-w.ensures } in
+    let here : Here c.args.x.now.image.now c.args.x.now.trailer c.loop-at.at c.fields-w.result = record { formed = c.loop-at.invariant.list.formed; fields = c.fields-w.ensures } in
     arms-fails _ (here) c.loop-at-test.true c.loop-at.invariant c.type_of_pattern.ensures c.if-type_of_pattern-t.true
 
 pub loop-at-smaller : goal.loop-at-smaller
 loop-at-smaller c =
-    let here : Here c.args.image.now c.args.i c.loop-at.at c.fields-w.result = record { formed = c.loop-at.invariant.list.formed; fields = c.fields-w.ensures } in
+    let here : Here c.args.x.now.image.now c.args.x.now.trailer c.loop-at.at c.fields-w.result = record { formed = c.loop-at.invariant.list.formed; fields = c.fields-w.ensures } in
     arms_less _ (here) c.loop-at-test.true c.loop-at.invariant
 
 pub loop-at-preserved : goal.loop-at-preserved
 loop-at-preserved c =
-    let here : Here c.args.image.now c.args.i c.loop-at.at c.fields-w.result = record { formed = c.loop-at.invariant.list.formed; fields = c.fields-w.ensures } in
+    let here : Here c.args.x.now.image.now c.args.x.now.trailer c.loop-at.at c.fields-w.result = record { formed = c.loop-at.invariant.list.formed; fields = c.fields-w.ensures } in
     arms_goes _ (here) c.loop-at-test.true c.loop-at.invariant c.type_of_pattern.ensures c.if-type_of_pattern-t.false
 
 pub returns : goal.returns

@@ -5,7 +5,7 @@ use Rattle.typing.proofs.Lists.{AlongArms}
 use Rattle.typing.proofs.arms_typed.Given as goal
 
 abbrev pub invariant-loop-at : goal.invariant-loop-at
-invariant-loop-at l = AlongArms l.image l.i l.t l.r l.at
+invariant-loop-at l = AlongArms l.x.image.now l.x.trailer l.t l.r l.at
 
 abbrev pub decreases-loop-at : goal.decreases-loop-at
 decreases-loop-at l = (l.at + 1) % 65536

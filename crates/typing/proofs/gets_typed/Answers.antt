@@ -13,27 +13,27 @@ fields-w-requires c = known-row refl (row-there c.loop-at.invariant c.loop-at-te
 
 pub type_of_expression-requires : goal.type_of_expression-requires
 type_of_expression-requires c =
-    let here : Here c.args.image.now c.args.i c.loop-at.at c.fields-w.result = record { formed = c.loop-at.invariant.list.formed; fields = c.fields-w.ensures } in
+    let here : Here c.args.x.now.image.now c.args.x.now.trailer c.loop-at.at c.fields-w.result = record { formed = c.loop-at.invariant.list.formed; fields = c.fields-w.ensures } in
     gets-expression (here) c.loop-at-test.true c.loop-at.invariant
 
 pub variable_type-requires : goal.variable_type-requires
 variable_type-requires c =
-    let here : Here c.args.image.now c.args.i c.loop-at.at c.fields-w.result = record { formed = c.loop-at.invariant.list.formed; fields = c.fields-w.ensures } in
+    let here : Here c.args.x.now.image.now c.args.x.now.trailer c.loop-at.at c.fields-w.result = record { formed = c.loop-at.invariant.list.formed; fields = c.fields-w.ensures } in
     gets-variable (here) c.loop-at-test.true c.loop-at.invariant
 
 pub returns-then-type_of_expression-variable_type : goal.returns-then-type_of_expression-variable_type
 returns-then-type_of_expression-variable_type c =
-    let here : Here c.args.image.now c.args.i c.loop-at.at c.fields-w.result = record { formed = c.loop-at.invariant.list.formed; fields = c.fields-w.ensures } in
+    let here : Here c.args.x.now.image.now c.args.x.now.trailer c.loop-at.at c.fields-w.result = record { formed = c.loop-at.invariant.list.formed; fields = c.fields-w.ensures } in
     gets-fails (here) c.loop-at-test.true c.loop-at.invariant c.type_of_expression.ensures c.variable_type.ensures c.if-type_of_expression-variable_type.true
 
 pub loop-at-smaller : goal.loop-at-smaller
 loop-at-smaller c =
-    let here : Here c.args.image.now c.args.i c.loop-at.at c.fields-w.result = record { formed = c.loop-at.invariant.list.formed; fields = c.fields-w.ensures } in
+    let here : Here c.args.x.now.image.now c.args.x.now.trailer c.loop-at.at c.fields-w.result = record { formed = c.loop-at.invariant.list.formed; fields = c.fields-w.ensures } in
     gets-less (here) c.loop-at-test.true c.loop-at.invariant
 
 pub loop-at-preserved : goal.loop-at-preserved
 loop-at-preserved c =
-    let here : Here c.args.image.now c.args.i c.loop-at.at c.fields-w.result = record { formed = c.loop-at.invariant.list.formed; fields = c.fields-w.ensures } in
+    let here : Here c.args.x.now.image.now c.args.x.now.trailer c.loop-at.at c.fields-w.result = record { formed = c.loop-at.invariant.list.formed; fields = c.fields-w.ensures } in
     gets-goes (here) c.loop-at-test.true c.loop-at.invariant c.type_of_expression.ensures c.variable_type.ensures c.if-type_of_expression-variable_type.false
 
 pub returns : goal.returns

@@ -13,22 +13,22 @@ fields-w-requires c = known-row refl (row-there c.loop-at.invariant c.loop-at-te
 
 pub variable_type-requires : goal.variable_type-requires
 variable_type-requires c =
-    let here : Here c.args.image.now c.args.i c.loop-at.at c.fields-w.result = record { formed = c.loop-at.invariant.list.formed; fields = c.fields-w.ensures } in
+    let here : Here c.args.x.now.image.now c.args.x.now.trailer c.loop-at.at c.fields-w.result = record { formed = c.loop-at.invariant.list.formed; fields = c.fields-w.ensures } in
     of_type-variable (here) c.loop-at-test.true c.loop-at.invariant
 
 pub returns-then-variable_type-w : goal.returns-then-variable_type-w
 returns-then-variable_type-w c =
-    let here : Here c.args.image.now c.args.i c.loop-at.at c.fields-w.result = record { formed = c.loop-at.invariant.list.formed; fields = c.fields-w.ensures } in
+    let here : Here c.args.x.now.image.now c.args.x.now.trailer c.loop-at.at c.fields-w.result = record { formed = c.loop-at.invariant.list.formed; fields = c.fields-w.ensures } in
     of_types-fails (here) c.loop-at-test.true c.loop-at.invariant c.variable_type.ensures c.if-variable_type-w.true
 
 pub loop-at-smaller : goal.loop-at-smaller
 loop-at-smaller c =
-    let here : Here c.args.image.now c.args.i c.loop-at.at c.fields-w.result = record { formed = c.loop-at.invariant.list.formed; fields = c.fields-w.ensures } in
+    let here : Here c.args.x.now.image.now c.args.x.now.trailer c.loop-at.at c.fields-w.result = record { formed = c.loop-at.invariant.list.formed; fields = c.fields-w.ensures } in
     of_types-less (here) c.loop-at-test.true c.loop-at.invariant
 
 pub loop-at-preserved : goal.loop-at-preserved
 loop-at-preserved c =
-    let here : Here c.args.image.now c.args.i c.loop-at.at c.fields-w.result = record { formed = c.loop-at.invariant.list.formed; fields = c.fields-w.ensures } in
+    let here : Here c.args.x.now.image.now c.args.x.now.trailer c.loop-at.at c.fields-w.result = record { formed = c.loop-at.invariant.list.formed; fields = c.fields-w.ensures } in
     of_types-goes (here) c.loop-at-test.true c.loop-at.invariant c.variable_type.ensures c.if-variable_type-w.false
 
 pub returns : goal.returns

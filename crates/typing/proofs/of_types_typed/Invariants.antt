@@ -5,7 +5,7 @@ use Rattle.typing.proofs.Lists.{AlongOfTypes}
 use Rattle.typing.proofs.of_types_typed.Given as goal
 
 abbrev pub invariant-loop-at : goal.invariant-loop-at
-invariant-loop-at l = AlongOfTypes l.image l.i l.r l.at
+invariant-loop-at l = AlongOfTypes l.x.image.now l.x.trailer l.r l.at
 
 abbrev pub decreases-loop-at : goal.decreases-loop-at
 decreases-loop-at l = (l.at + 1) % 65536

@@ -11,16 +11,16 @@ use Rattle.typing.proofs.typing_verdict.Goals as goal
 
 pub find-requires-clause-callable : goal.find-requires-clause-callable
 find-requires-clause-callable c =
-    serves_from_Range (λ x q k. search (rules, tests)) (λ x low high. let h : RootedRow c.args.image.now c.args.i x = record { rooted = c.requires; inside = omega (arith, rows-count c.requires.formed.located) } in search rules)
+    serves_from_Range (λ x q k. search (rules, tests)) (λ x low high. let h : RootedRow c.args.x.now.image.now c.args.x.now.trailer x = record { rooted = c.requires; inside = omega (arith, rows-count c.requires.formed.located) } in search rules)
 
 pub returns-in-Some : goal.returns-in-Some
 unfolding typing_verdict
 returns-in-Some c =
-    let p = typed (tables_of c.args.image.now) in
+    let p = typed (tables_of c.args.x.now.image.now) in
     found-refused p _ _ (found p _ _ _ c.find.ensures.ran (λ x b q k. search (rules, tests)) c.row_count-n.ensures) c.in-Some.is
 
 pub returns-in-None : goal.returns-in-None
 unfolding typing_verdict
 returns-in-None c =
-    let p = typed (tables_of c.args.image.now) in
+    let p = typed (tables_of c.args.x.now.image.now) in
     none-accepted p _ _ (found p _ _ _ c.find.ensures.ran (λ x b q k. search (rules, tests)) c.row_count-n.ensures) c.in-None.is

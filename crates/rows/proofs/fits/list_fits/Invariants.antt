@@ -5,7 +5,7 @@ use Rattle.model.specs.Rows.{list_fits}
 use Rattle.rows.proofs.fits.list_fits.Given as goal
 
 abbrev pub invariant-loop-at : goal.invariant-loop-at
-invariant-loop-at l = list_fits (tables_of l.image) l.left l.at ≡ list_fits (tables_of l.image) l.most l.n
+invariant-loop-at l = list_fits (tables_of l.x.image.now) l.left l.at ≡ list_fits (tables_of l.x.image.now) l.most l.n
 
 abbrev pub decreases-loop-at : goal.decreases-loop-at
 decreases-loop-at l = l.left

@@ -7,4 +7,4 @@ use Rattle.model.proofs.Found.{found}
 use Rattle.rows.proofs.fits.malformed.Goals as goal
 
 pub returns : goal.returns
-returns c = found (formed (tables_of c.args.image.now)) _ _ _ c.find.ensures.ran (λ x b q k. search (rules, tests)) refl
+returns c = found (formed (tables_of c.args.x.now.image.now)) _ _ _ c.find.ensures.ran (λ x b q k. search (rules, tests)) refl

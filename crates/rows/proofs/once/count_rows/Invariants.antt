@@ -6,4 +6,4 @@ use Rattle.rows.specs.Counts.{Counted}
 use Rattle.rows.proofs.once.count_rows.Given as goal
 
 abbrev pub invariant-loop-r : goal.invariant-loop-r
-invariant-loop-r l = Counted l.initial.counts l.counts (named_by_rows (take l.r (tables_of l.image).rows))
+invariant-loop-r l = Counted l.initial.counts l.counts (named_by_rows (take l.r (tables_of l.x.image.now).rows))

@@ -5,4 +5,4 @@ use Rattle.rows.specs.Counts.{Counted}
 use Rattle.rows.proofs.once.count_states.Given as goal
 
 abbrev pub invariant-loop-q : goal.invariant-loop-q
-invariant-loop-q l = Counted l.initial.counts l.counts (take l.q (tables_of l.image).states)
+invariant-loop-q l = Counted l.initial.counts l.counts (take l.q (tables_of l.x.image.now).states)

@@ -1,7 +1,7 @@
 use native.Mathlib.Omega.{arith}
 use Rattle.image.proofs.Laid.{type-inside, type-read}
 use mathlib.Core.{Path.sym, Path.◌∙◌}
-use Rattle.image.proofs.size.Goals as goal
+use Rattle.image.proofs.Automaton.size.Goals as goal
 
 pub half-requires : goal.half-requires
 half-requires c = omega (arith, type-inside c.requires)

@@ -1,6 +1,6 @@
 use native.Mathlib.Omega.{arith}
 use Rattle.image.proofs.Laid.{row_inside, row_read}
-use Rattle.image.proofs.fields.Goals as goal
+use Rattle.image.proofs.Automaton.fields.Goals as goal
 
 pub half-requires : goal.half-requires
 half-requires c = omega (arith, row_inside c.requires)
