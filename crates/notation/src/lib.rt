@@ -106,7 +106,7 @@ pub(crate) fn put_filled(
     }
 }
 
-// What is written of an x.image, by what check gave with room for 64 sets.
+// What is written of an image, by what check gave with room for 64 sets.
 fn put_explained(image: &[u8], v: Result<(), Refusal>, sets: &[u64], page: &mut Page<'_>)
     requires { Gave image.now v sets.now }
     ensures { Written (explained image.now) page.old page.new }

@@ -65,7 +65,7 @@ fn verdict_by(x: &Automaton, lines: &[u32; CODES]) -> Result<(), Refusal>
     Ok(())
 }
 
-// What 5 to 7 give of an x.image that is past 1 to 3.
+// What 5 to 7 give of an image that is past 1 to 3.
 pub fn rows_verdict(x: &Automaton) -> Result<(), Refusal>
     requires { Located x.now.image.now x.now.trailer }
     ensures { result ≡ rows_verdict (tables x.now) }

@@ -1,12 +1,12 @@
 // The walk of an action's rows (Figure 7): what holds where it ends, and what its jumps carry to each state.
 ghost use Rattle.std.specs.Prelude.{◌≡◌, true};
-ghost use Rattle.model.specs.Image.{tables_of};
+ghost use Rattle.image.specs.Located.{tables};
 ghost use Rattle.model.specs.Rows.{branch, arm};
 ghost use Rattle.model.specs.Decode.{action_at};
 ghost use Rattle.masks.specs.Masks.{branches_at, arms_at};
 ghost use Rattle.sets.specs.Flow.{flow, flow_branches, flow_arms, Walked, Plain, Ready, ReadyAs, Single, Loop, ReadyList, Jump, PlainRow};
 
-use image::{code, fields};
+use image::Automaton;
 use masks::{Masks, bit, inside, masks_in, without};
 use model::Image;
 
@@ -14,18 +14,17 @@ use model::Image;
 // takes little of the stack.
 #[derive(Clone, Copy)]
 pub struct Lent<'a> {
-    pub image: &'a [u8],
-    pub i: Image,
+    pub x: Automaton<'a>,
     pub masks: &'a [Masks],
     pub top: u64,
 }
 
 // 48 to 52: what holds after the action; fine turns false where it reads what isn't defined.
 fn plain(lent: &Lent, row: u16, entering: u64, fine: &mut bool) -> u64
-    requires { PlainRow lent.now.image.now lent.now.i lent.now.masks.now row }
-    ensures { Plain (tables_of lent.now.image.now) row entering fine.old fine.new result }
+    requires { PlainRow lent.now.x.image.now lent.now.x.trailer lent.now.masks.now row }
+    ensures { Plain (tables lent.now.x) row entering fine.old fine.new result }
 {
-    let w = fields(lent.image, lent.i, row);
+    let w = lent.x.fields(row);
     let c = w.code;
     match c {
         49 => {
@@ -52,10 +51,10 @@ fn plain(lent: &Lent, row: u16, entering: u64, fine: &mut bool) -> u64
 
 // A jump carries its set to a state, which is added to moved if its set changes; code after it is entered with all variables.
 fn jump(lent: &Lent, row: u16, entering: u64, out: &mut [u64], moved: &mut u64) -> u64
-    requires { Jump lent.now.image.now lent.now.i row lent.now.top out.old }
-    ensures { Walked (flow lent.now.top entering (action_at (tables_of lent.now.image.now) row)) out.old out.new moved.old moved.new true true result }
+    requires { Jump lent.now.x.image.now lent.now.x.trailer row lent.now.top out.old }
+    ensures { Walked (flow lent.now.top entering (action_at (tables lent.now.x) row)) out.old out.new moved.old moved.new true true result }
 {
-    let w = fields(lent.image, lent.i, row);
+    let w = lent.x.fields(row);
     let q = w.a as usize;
     let old = out[q];
     let new = old & entering;
@@ -78,13 +77,13 @@ pub fn walk(
     moved: &mut u64,
     fine: &mut bool,
 ) -> u64
-    requires { Ready lent.now.image.now lent.now.i lent.now.masks.now row lent.now.top out.old }
-    ensures { Walked (flow lent.now.top entering (action_at (tables_of lent.now.image.now) row)) out.old out.new moved.old moved.new fine.old fine.new result }
+    requires { Ready lent.now.x.image.now lent.now.x.trailer lent.now.masks.now row lent.now.top out.old }
+    ensures { Walked (flow lent.now.top entering (action_at (tables lent.now.x) row)) out.old out.new moved.old moved.new fine.old fine.new result }
 {
     let mut here = row;
     let mut set = entering;
-    while code(lent.image, lent.i, here) == 54 {
-        let w = fields(lent.image, lent.i, here);
+    while lent.x.code(here) == 54 {
+        let w = lent.x.fields(here);
         set = walk_first(lent, w.a, set, out, moved, fine);
         here = w.b;
     }
@@ -101,10 +100,10 @@ fn walk_first(
     moved: &mut u64,
     fine: &mut bool,
 ) -> u64
-    requires { Ready lent.now.image.now lent.now.i lent.now.masks.now row lent.now.top out.old }
-    ensures { Walked (flow lent.now.top entering (action_at (tables_of lent.now.image.now) row)) out.old out.new moved.old moved.new fine.old fine.new result }
+    requires { Ready lent.now.x.image.now lent.now.x.trailer lent.now.masks.now row lent.now.top out.old }
+    ensures { Walked (flow lent.now.top entering (action_at (tables lent.now.x) row)) out.old out.new moved.old moved.new fine.old fine.new result }
 {
-    if code(lent.image, lent.i, row) < 53 {
+    if lent.x.code(row) < 53 {
         return plain(lent, row, entering, fine);
     }
     walk(lent, row, entering, out, moved, fine)
@@ -120,10 +119,10 @@ fn walk_single(
     moved: &mut u64,
     fine: &mut bool,
 ) -> u64
-    requires { ReadyAs Single lent.now.image.now lent.now.i lent.now.masks.now row lent.now.top out.old }
-    ensures { Walked (flow lent.now.top entering (action_at (tables_of lent.now.image.now) row)) out.old out.new moved.old moved.new fine.old fine.new result }
+    requires { ReadyAs Single lent.now.x.image.now lent.now.x.trailer lent.now.masks.now row lent.now.top out.old }
+    ensures { Walked (flow lent.now.top entering (action_at (tables lent.now.x) row)) out.old out.new moved.old moved.new fine.old fine.new result }
 {
-    let w = fields(lent.image, lent.i, row);
+    let w = lent.x.fields(row);
     let c = w.code;
     match c {
         53 => jump(lent, row, entering, out, moved),
@@ -148,13 +147,13 @@ fn walk_branches(
     moved: &mut u64,
     fine: &mut bool,
 ) -> u64
-    requires { ReadyList branch lent.now.image.now lent.now.i lent.now.masks.now row lent.now.top out.old }
-    ensures { Walked (flow_branches lent.now.top entering (branches_at (tables_of lent.now.image.now) row)) out.old out.new moved.old moved.new fine.old fine.new result }
+    requires { ReadyList branch lent.now.x.image.now lent.now.x.trailer lent.now.masks.now row lent.now.top out.old }
+    ensures { Walked (flow_branches lent.now.top entering (branches_at (tables lent.now.x) row)) out.old out.new moved.old moved.new fine.old fine.new result }
 {
     let mut here = row;
     let mut ends = lent.top;
     while here != Image::NONE {
-        let w = fields(lent.image, lent.i, here);
+        let w = lent.x.fields(here);
         ends = ends & walk(lent, w.a, entering, out, moved, fine);
         here = w.b;
     }
@@ -171,13 +170,13 @@ fn walk_arms(
     moved: &mut u64,
     fine: &mut bool,
 ) -> u64
-    requires { ReadyList arm lent.now.image.now lent.now.i lent.now.masks.now row lent.now.top out.old }
-    ensures { Walked (flow_arms lent.now.top entering (arms_at (tables_of lent.now.image.now) row)) out.old out.new moved.old moved.new fine.old fine.new result }
+    requires { ReadyList arm lent.now.x.image.now lent.now.x.trailer lent.now.masks.now row lent.now.top out.old }
+    ensures { Walked (flow_arms lent.now.top entering (arms_at (tables lent.now.x) row)) out.old out.new moved.old moved.new fine.old fine.new result }
 {
     let mut here = row;
     let mut ends = lent.top;
     while here != Image::NONE {
-        let w = fields(lent.image, lent.i, here);
+        let w = lent.x.fields(here);
         let entered = entering | masks_in(lent.masks, w.a).defs;
         ends = ends & walk(lent, w.b, entered, out, moved, fine);
         here = w.c;
@@ -195,10 +194,10 @@ fn walk_loop(
     moved: &mut u64,
     fine: &mut bool,
 ) -> u64
-    requires { ReadyAs Loop lent.now.image.now lent.now.i lent.now.masks.now row lent.now.top out.old }
-    ensures { Walked (flow lent.now.top entering (action_at (tables_of lent.now.image.now) row)) out.old out.new moved.old moved.new fine.old fine.new result }
+    requires { ReadyAs Loop lent.now.x.image.now lent.now.x.trailer lent.now.masks.now row lent.now.top out.old }
+    ensures { Walked (flow lent.now.top entering (action_at (tables lent.now.x) row)) out.old out.new moved.old moved.new fine.old fine.new result }
 {
-    let w = fields(lent.image, lent.i, row);
+    let w = lent.x.fields(row);
     let head = masks_in(lent.masks, w.a);
     let kept = entering | head.defs;
     let ends = walk(lent, w.b, kept, out, moved, fine);

@@ -5,7 +5,6 @@ mod flow;
 
 ghost use Rattle.image.specs.Located.{tables};
 ghost use Rattle.std.specs.Prelude.{◌≡◌, ◌<◌};
-ghost use Rattle.model.specs.Image.{tables_of};
 ghost use Rattle.model.specs.Largest.{begun};
 ghost use Rattle.sets.specs.States.{Lowest, Marked, Beginning, Staged, Settled, Judged, EachState, Room, Found};
 
@@ -45,15 +44,15 @@ fn mark(wrong: u64, s: u16, fine: bool) -> u64
 // Walks until no state is due: the largest sets that fit, and the mask of the states that err with them. A state is due when
 // a walked state first jumps to it, and again when its set changes.
 fn settle(lent: &Lent, sets: &mut [u64]) -> u64
-    requires { Staged lent.now.image.now lent.now.i lent.now.masks.now lent.now.top sets.old }
-    ensures { Settled (tables_of lent.now.image.now) result sets.new }
+    requires { Staged lent.now.x.image.now lent.now.x.trailer lent.now.masks.now lent.now.top sets.old }
+    ensures { Settled (tables lent.now.x) result sets.new }
 {
     let mut due: u64 = 1;
     let mut walked: u64 = 0;
     let mut wrong: u64 = 0;
     while due != 0 {
         let s = lowest(due);
-        let row = state_row(lent.image, lent.i, s);
+        let row = lent.x.state_row(s);
         let led = lent.masks[row as usize].leads;
         let set = sets[s as usize];
         let mut moved: u64 = 0;
@@ -74,7 +73,7 @@ fn initialisation(x: &Automaton, masks: &[Masks], sets: &mut [u64]) -> Result<()
 {
     let top = full(x.variable_count());
     begin(x, top, sets);
-    let wrong = settle(&Lent { x, masks, top }, sets);
+    let wrong = settle(&Lent { x: *x, masks, top }, sets);
     if wrong == 0 {
         return Ok(());
     }

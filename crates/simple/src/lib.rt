@@ -48,7 +48,7 @@ fn read_on(
     communicate(x, r, w, store, script, values, run)
 }
 
-// The same, with the run's state taken out of its slots and put back. An x.image made anew is handed on in registers.
+// The same, with the run's state taken out of its slots and put back.
 fn run_worded(
     image: &[u8],
     r: u16,
@@ -60,9 +60,12 @@ fn run_worded(
     requires { Worded image.now (trailer_of image.now) r store.old values.old × (5 ≤ length run.old) }
     ensures { Leaves result run.old run.new store.old store.new values.old values.new (exec_act (tables_of image.now) (act_of (action_at (tables_of image.now) r)) script.now.now r (state_of (run_of run.old) store.old values.old)) }
 {
-    let i = trailer(&image[0..]);
+    let x = Automaton {
+        image,
+        trailer: trailer(image),
+    };
     let now = taken(run);
-    let q = read_on(&image[0..], i, r, store, *script, values, now);
+    let q = read_on(&x, r, store, *script, values, now);
     put(q.run, run);
     let out = q.out;
     told(out)
@@ -85,12 +88,12 @@ pub fn run_simple(
     let code = w.code;
     match code {
         49 => run_assign(image, rows, r, w.a, store),
-        50 => run_worded(&image[0..], r, store, script, values, run),
+        50 => run_worded(image, r, store, script, values, run),
         51 => {
             reset(image, rows, w.a, store);
             ENDS
         }
-        52 => run_worded(&image[0..], r, store, script, values, run),
+        52 => run_worded(image, r, store, script, values, run),
         53 => told(Outcome::Jumps(State(w.a))),
         _ => ENDS,
     }

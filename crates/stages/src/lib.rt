@@ -80,7 +80,7 @@ fn flow(
     }
 }
 
-// 8 to 12, of an x.image free of 1 to 7.
+// 8 to 12, of an image free of 1 to 7.
 fn trees(
     x: &Automaton,
     room: usize,
@@ -152,7 +152,7 @@ fn rules_on<const N: usize>(x: &Automaton) -> Result<(), Refusal>
     rules(x, &mut masks)
 }
 
-// 8 and 9 on scratch for 128 rows, for 512 or for any x.image.
+// 8 and 9 on scratch for 128 rows, for 512 or for any image.
 fn rules_sized(x: &Automaton) -> Result<(), Refusal>
     requires { Ruling x.now.image.now x.now.trailer 2048 }
     ensures { result ≡ rules_verdict (tables x.now) }

@@ -139,7 +139,7 @@ fn count(x: &Automaton, params: &[i32], store: &mut [i32]) -> Result<(), Refusal
     begin(x, params, store)
 }
 
-// The verdict on an x.image, parameter values and a store, and where it is accepted the store that the automaton starts with.
+// The verdict on an image, parameter values and a store, and where it is accepted the store that the automaton starts with.
 pub fn start(image: &[u8], params: &[i32], store: &mut [i32]) -> Result<(), Refusal>
     ensures { record { answer = result; store = store.new } ≡ start image.now params.now store.old }
 {

@@ -2,7 +2,7 @@ use borrow.Author.Rules.{rules}
 use mathlib.Core.Logic.{inl, inr}
 use mathlib.Core.Path.{refl, sym, ap, ◌∙◌}
 use Rattle.model.specs.declared.{Fields.Fields}
-use Rattle.expressions.proofs.{Ways.row_from, Numbers.whole}
+use Rattle.expressions.proofs.Ways.{row_from}
 use Rattle.told.specs.Told.{run_of}
 use Rattle.told.proofs.Coded.{out-ends, told-by, told-ends}
 use Rattle.simple.proofs.{Late.act-stops, Acts.simple-runs, Acts.to-worded, Acts.to-assigning, Acts.reset-items, Acts.assign-way, Acts.reset-way, Acts.to-way, Acts.null-way, Acts.code_below, Acts.result_as}
@@ -17,7 +17,7 @@ run_assign-requires c =
 
 pub run_worded-requires : goal.run_worded-requires
 run_worded-requires c =
-    rw (whole c.args.image.now) (to-worded c.requires.0 (inl (ap (λ (f : Fields). f.code) (sym c.row-w.ensures) ∙ c.in-50.is)), c.requires.1)
+    (to-worded c.requires.0 (inl (ap (λ (f : Fields). f.code) (sym c.row-w.ensures) ∙ c.in-50.is)), c.requires.1)
 
 pub reset-requires : goal.reset-requires
 reset-requires c =
@@ -25,7 +25,7 @@ reset-requires c =
 
 pub run_worded-requires-in-52 : goal.run_worded-requires-in-52
 run_worded-requires-in-52 c =
-    rw (whole c.args.image.now) (to-worded c.requires.0 (inr (ap (λ (f : Fields). f.code) (sym c.row-w.ensures) ∙ c.in-52.is)), c.requires.1)
+    (to-worded c.requires.0 (inr (ap (λ (f : Fields). f.code) (sym c.row-w.ensures) ∙ c.in-52.is)), c.requires.1)
 
 pub told-requires : goal.told-requires
 told-requires c =
@@ -37,7 +37,7 @@ returns-in-49 c =
 
 pub returns-in-50 : goal.returns-in-50
 returns-in-50 c =
-    rw (whole c.args.image.now) at c.run_worded.ensures
+    c.run_worded.ensures
 
 pub returns-in-51 : goal.returns-in-51
 returns-in-51 c =
@@ -45,7 +45,7 @@ returns-in-51 c =
 
 pub returns-in-52 : goal.returns-in-52
 returns-in-52 c =
-    rw (whole c.args.image.now) at c.run_worded-in-52.ensures
+    c.run_worded-in-52.ensures
 
 pub returns-in-53 : goal.returns-in-53
 returns-in-53 c =
