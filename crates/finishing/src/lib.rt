@@ -9,7 +9,6 @@ ghost use Rattle.finishing.specs.Finishing.{Finishes};
 
 use actions::{Ran, Run, blocked_at};
 use model::{Move, Outcome, Refusal};
-use words::copy;
 
 // Word k of a label: its gate (-1 where nothing was said), the number of its values, the values, then zeros.
 fn label_word(values: &[i32], run: Run, k: usize) -> i32
@@ -42,10 +41,8 @@ pub fn put_label(label: &mut [i32], values: &[i32], run: Run)
     requires { (10 ≤ length label.old) × (length values.now ≡ 8) }
     ensures { label.new ≡ label_words (label_of run values.now) ++ drop 10 label.old }
 {
-    let mut k = 0;
-    while k < 10 {
-        label[k] = label_word(values, run, k);
-        k += 1;
+    for (k, word) in label[..10].iter_mut().enumerate() {
+        *word = label_word(values, run, k);
     }
 }
 
@@ -67,7 +64,7 @@ pub fn finish(
         Outcome::Ends => Err(blocked_at(at, ran.run.spoken)),
         Outcome::Stops(y) => Err(y),
         Outcome::Jumps(t) => {
-            copy(store, work);
+            store.copy_from_slice(work);
             put_label(label, values, ran.run);
             Ok(Move {
                 next: t,

@@ -1,9 +1,9 @@
 -- start on words that are read from bytes, no more of them than can matter. Assumes nothing.
 use Rattle.std.specs.Prelude.{Ok, Err}
-use mathlib.Core.{Path.◌≡◌, Path.refl, Path.sym, Path.ap, Path.◌∙◌, Bool.Bool, Bool.true, Bool.false, List.List, List.[], List.◌∷◌, List.◌++◌, List.map, List.append-nil}
+use mathlib.Core.{Path.◌≡◌, Path.refl, Path.sym, Path.ap, Path.◌∙◌, Bool.Bool, Bool.true, Bool.false, List.List, List.[], List.◌∷◌, List.map}
 use Prim.Native.Nat.{ℕ, zero, suc, ◌+◌, ◌*◌, ◌/◌, ◌^◌, ◌≤◌, ◌<◌, min}
 use native.Mathlib.Omega.{arith}
-use lib.{Dec.eqb, IntN.ℤ, ListN.length, ListN.get_or, ListN.take, ListN.drop, ListN.drop_of_length-le, Seq.take_all, Seq.take-length}
+use lib.{Dec.eqb, IntN.ℤ, ListN.length, ListN.get_or, ListN.take, Seq.take_all}
 use borrow.Author.Tests.{eq-eqb, ne_eqb, eqb-true, eqb-false}
 use Rattle.model.specs.declared.{Refusal.Refusal, Refusal.TheVariants.StoreLength, Refusal.TheVariants.ParameterCount}
 use Rattle.model.specs.Answers.{after, unless, Verdict}
@@ -117,11 +117,11 @@ module _ (s : List ℕ) {ps given m slots after : List ℤ} {v : Verdict} (r : R
       ap (λ (c : Started). c.store) f ∙ ap (λ (u : Verdict). (started_as u (started (tables_of s) given) slots).store) (capped s r ∙ sym verdict-is ∙ e) in
       rw (← verdict-is, e, k, w)
 
-pub read_of : (params store : List ℕ) (was : List ℤ) {given slots : List ℤ} {n : ℕ} → n ≡ length was → length given ≡ length was → length was ≡ min (length params / 4) 65
-    → length slots ≡ min (length store / 4) 65 → given ≡ take n (signed_words params) ++ drop n was → Read (signed_words params) given (signed_words store) slots
-read_of params store was {given} {slots} {n} c k p q e =
+pub read_of : (params store : List ℕ) (was : List ℤ) {given slots : List ℤ} → length given ≡ length was → length was ≡ min (length params / 4) 65
+    → length slots ≡ min (length store / 4) 65 → given ≡ take (length was) (signed_words params) → Read (signed_words params) given (signed_words store) slots
+read_of params store was {given} {slots} k p q e =
     record {
-      first = e ∙ rw (drop_of_length-le was {i = n} (omega arith), append-nil, k, c);
+      first = rw k e;
       values = k ∙ rw (length-signed_words params) p;
       room = rw (length-signed_words store) q;
     }
@@ -145,7 +145,7 @@ module _ (s params store : List ℕ) (bytes : (j : ℕ) → get_or store j 0 < 2
     unfolding start_bytes
     start-bytes-refused y e = rw (← words-refused s r f y e, p, back-kept)
 
-    pub start-bytes-accepted : {lent : List ℕ} (k : ℕ) → v ≡ Ok tt → k ≡ length after → lent ≡ written 4 (map (unsigned (2 ^ 31)) (take k after)) store
+    pub start-bytes-accepted : {lent : List ℕ} → v ≡ Ok tt → lent ≡ written 4 (map (unsigned (2 ^ 31)) after) store
         → ◌≡◌ {A = Exported} (record { answer = n; lent = lent }) (start_bytes s params store)
     unfolding start_bytes
-    start-bytes-accepted k e c a = rw (← words-accepted s r f e, p, a, c, take-length)
+    start-bytes-accepted e a = rw (← words-accepted s r f e, p, a)

@@ -10,18 +10,7 @@ use image::{Automaton, trailer};
 use model::{Image, Move, Refusal, State};
 use stages::judge;
 use stepping::take_step;
-use words::{get_words, put_masks, put_words};
-
-fn copy(sets: &mut [u64], masks: &[u64], count: usize)
-    requires { (count ≤ length masks.now) × (count ≤ length sets.old) }
-    ensures { sets.new ≡ take count masks.now ++ drop count sets.old }
-{
-    let mut i = 0;
-    while i < count {
-        sets[i] = masks[i];
-        i += 1;
-    }
-}
+use words::{get_words, put_words};
 
 // check, with masks that its caller lends: a refusal leaves the sets alone.
 fn check_on(image: &[u8], sets: &mut [u64], masks: &mut [u64]) -> Result<(), Refusal>
@@ -36,7 +25,8 @@ fn check_on(image: &[u8], sets: &mut [u64], masks: &mut [u64]) -> Result<(), Ref
                 image,
                 trailer: trailer(image),
             };
-            copy(sets, masks, x.state_count() as usize);
+            let n = x.state_count() as usize;
+            sets[..n].copy_from_slice(&masks[..n]);
             v
         }
     }
@@ -80,7 +70,8 @@ fn check_bytes_on(image: &[u8], sets: &mut [u8], masks: &mut [u64]) -> u64
                 image,
                 trailer: trailer(image),
             };
-            put_masks(sets, masks, x.state_count() as usize);
+            let n = x.state_count() as usize;
+            put_words(sets, &masks[..n]);
             pack_verdict(v)
         }
     }
@@ -121,14 +112,12 @@ fn start_bytes_on(
     requires { (length given.old ≡ min (length params.now / 4) 65) × (length slots.old ≡ min (length store.old / 4) 65) }
     ensures { record { answer = result; lent = store.new } ≡ start_bytes image.now params.now store.old }
 {
-    let n = given.len();
-    get_words(given, params, n);
+    get_words(given, params);
     let v = starting::start(image, given, slots);
     match v {
         Err(_) => pack_verdict(v),
         Ok(()) => {
-            let m = slots.len();
-            put_words(store, slots, m);
+            put_words(store, slots);
             pack_verdict(v)
         }
     }
@@ -194,14 +183,13 @@ fn step_bytes_on(
     requires { (length slots.old ≡ min (length store.old / 4) 65) × (length ten.old ≡ min (length label.old / 4) 10) }
     ensures { record { answer = result; store = store.new; label = label.new } ≡ step_bytes image.now q store.old script.now budget label.old }
 {
-    let n = slots.len();
-    get_words(slots, store, n);
+    get_words(slots, store);
     let done = take_step(image, state_of(q), slots, script, budget, ten);
     match done {
         Err(y) => pack_refusal(y),
         Ok(m) => {
-            put_words(store, slots, n);
-            put_words(label, ten, ten.len());
+            put_words(store, slots);
+            put_words(label, ten);
             pack_move(m)
         }
     }

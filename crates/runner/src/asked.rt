@@ -121,7 +121,7 @@ fn script(
         });
     }
     let s = numbers(rt, err, at + 1, end, &mut given)?;
-    put_words(bytes, &given, s.count);
+    put_words(bytes, &given[..s.count]);
     Ok(s)
 }
 

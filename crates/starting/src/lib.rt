@@ -12,7 +12,6 @@ use image::{Automaton, trailer};
 use model::{Image, Refusal, Tested, Variable};
 use stages::image_verdict;
 use values::of_size;
-use words::copy;
 
 // How many variables are parameters.
 fn parameter_count(x: &Automaton) -> usize
@@ -109,7 +108,7 @@ fn begin_on(
     match v {
         Err(_) => v,
         Ok(()) => {
-            copy(store, work);
+            store.copy_from_slice(work);
             v
         }
     }

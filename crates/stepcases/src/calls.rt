@@ -67,7 +67,7 @@ fn begin(
     if given.len() < 4 * count {
         return answer::text(rt, b" bad line");
     }
-    get_words(&mut params, given, count);
+    get_words(&mut params[..count], given);
     begun(rt, image, &params, count, store, s.store, before)
 }
 

@@ -17,7 +17,6 @@ use model::{Image, Move, Refusal, State, Variable};
 use stages::image_verdict;
 use told::{SLOTS, Values, outcome, put, taken};
 use values::of_size;
-use words::copy;
 
 // Whether a slot is undefined or of its variable's type.
 fn slot_fits(x: &Automaton, store: &[i32], v: u16) -> bool
@@ -136,7 +135,7 @@ fn step_on(
     requires { Steps x.now.image.now x.now.trailer q store.old budget label.old work.old.now values.old }
     ensures { record { answer = result; store = store.new; label = label.new } ≡ ran (tables x.now) q store.old script.now budget label.old }
 {
-    copy(*work, store);
+    work.copy_from_slice(store);
     let p = try_step(x, q.0, work, script, values, budget);
     let at = x.state_row(q.0);
     finish_on(p, at, budget, store, label, *work, values)

@@ -1,19 +1,30 @@
+-- `ntif::check_bytes_on` meets its contract. Assumes nothing.
+use mathlib.Core.Path.{ap, ◌∙◌}
+use Prim.Native.Nat.{◌≤◌}
 use native.Mathlib.Omega.{arith}
+use lib.{ListN.length, ListN.take, Seq.length-take-le}
+use Rattle.std.proofs.lemmas.List.{map-id}
+use Rattle.model.specs.Bytes.{written}
 use Rattle.ntif.proofs.Checking.{accepted-trailer, accepted-rooted, accepted-fits, accepted-most, bytes-refused, bytes-accepted}
 use Rattle.ntif.proofs.check_bytes_on.Goals as goal
 
 pub trailer-requires : goal.trailer-requires
 trailer-requires c = accepted-trailer _ _ c.judge-v.ensures.verdict c.in-Ok.is
 
-pub state_count-requires : goal.state_count-requires
-state_count-requires c = (accepted-rooted _ _ c.judge-v.ensures.verdict c.in-Ok.is _ c.trailer.ensures).formed.located
+pub state_count-n-requires : goal.state_count-n-requires
+state_count-n-requires c = (accepted-rooted _ _ c.judge-v.ensures.verdict c.in-Ok.is _ c.trailer.ensures).formed.located
 
-pub put_masks-requires : goal.put_masks-requires
-put_masks-requires c =
-    let v = c.judge-v.ensures.verdict in
-    let e = c.in-Ok.is in
-    let n = c.state_count.ensures in
-    (omega (arith, n, accepted-most _ _ v e, c.requires), omega (arith, n, accepted-fits _ _ v e))
+pub slice_bounds-put_words-end : goal.slice_bounds-put_words-end
+slice_bounds-put_words-end c = omega (arith, c.state_count-n.ensures, accepted-most _ _ c.judge-v.ensures.verdict c.in-Ok.is)
+
+pub slice_bounds-put_words-end-in-Ok : goal.slice_bounds-put_words-end-in-Ok
+slice_bounds-put_words-end-in-Ok c =
+    omega (arith, length-take-le c.state_count-n.result c.judge-v.new.masks (omega (arith, c.state_count-n.ensures, accepted-most _ _ c.judge-v.ensures.verdict c.in-Ok.is)))
+
+pub put_words-requires : goal.put_words-requires
+put_words-requires c =
+    let most : c.state_count-n.result ≤ length c.judge-v.new.masks = omega (arith, c.state_count-n.ensures, accepted-most _ _ c.judge-v.ensures.verdict c.in-Ok.is) in
+    omega (arith, length-take-le c.state_count-n.result c.judge-v.new.masks most, c.state_count-n.ensures, accepted-fits _ _ c.judge-v.ensures.verdict c.in-Ok.is)
 
 pub returns-in-Err : goal.returns-in-Err
 returns-in-Err c =
@@ -21,6 +32,5 @@ returns-in-Err c =
 
 pub returns-in-Ok : goal.returns-in-Ok
 returns-in-Ok c =
-    let g = c.judge-v.ensures in
-    let e = c.in-Ok.is in
-    bytes-accepted _ c.args.sets.now (λ j. omega (arith, c.slice_known-1.given j)) _ g e c.state_count.ensures c.put_masks.ensures c.pack_verdict-in-Ok.ensures
+    bytes-accepted _ c.args.sets.now (λ j. omega (arith, c.slice_known-1.given j)) _ c.judge-v.ensures c.in-Ok.is c.state_count-n.ensures
+    (c.put_words.ensures ∙ ap (λ l. written 8 l c.args.sets.now) (map-id (take c.state_count-n.result c.judge-v.new.masks))) c.pack_verdict-in-Ok.ensures

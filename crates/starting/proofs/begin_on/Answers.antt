@@ -9,4 +9,4 @@ pub returns-in-Err : goal.returns-in-Err
 returns-in-Err c = begun-refused _ _ _ c.fill.ensures c.values_verdict-v.ensures _ c.in-Err.is
 
 pub returns-in-Ok : goal.returns-in-Ok
-returns-in-Ok c = begun-accepted _ _ _ c.fill.ensures c.values_verdict-v.ensures c.in-Ok.is c.copy.ensures
+returns-in-Ok c = begun-accepted _ _ _ c.fill.ensures c.values_verdict-v.ensures c.in-Ok.is c.copy_from_slice.ensures.after
