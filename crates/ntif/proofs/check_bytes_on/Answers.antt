@@ -1,8 +1,8 @@
 -- `ntif::check_bytes_on` meets its contract. Assumes nothing.
 use mathlib.Core.Path.{ap, ◌∙◌}
-use Prim.Native.Nat.{◌≤◌}
+use Prim.Native.Nat.{ℕ}
 use native.Mathlib.Omega.{arith}
-use lib.{ListN.length, ListN.take, Seq.length-take-le}
+use lib.ListN.{take, length-take}
 use Rattle.std.proofs.lemmas.List.{map-id}
 use Rattle.model.specs.Bytes.{written}
 use Rattle.ntif.proofs.Checking.{accepted-trailer, accepted-rooted, accepted-fits, accepted-most, bytes-refused, bytes-accepted}
@@ -19,12 +19,12 @@ slice_bounds-put_words-end c = omega (arith, c.state_count-n.ensures, accepted-m
 
 pub slice_bounds-put_words-end-in-Ok : goal.slice_bounds-put_words-end-in-Ok
 slice_bounds-put_words-end-in-Ok c =
-    omega (arith, length-take-le c.state_count-n.result c.judge-v.new.masks (omega (arith, c.state_count-n.ensures, accepted-most _ _ c.judge-v.ensures.verdict c.in-Ok.is)))
+    omega (arith, length-take {A = ℕ}, c.state_count-n.ensures, accepted-most _ _ c.judge-v.ensures.verdict c.in-Ok.is)
 
 pub put_words-requires : goal.put_words-requires
 put_words-requires c =
-    let most : c.state_count-n.result ≤ length c.judge-v.new.masks = omega (arith, c.state_count-n.ensures, accepted-most _ _ c.judge-v.ensures.verdict c.in-Ok.is) in
-    omega (arith, length-take-le c.state_count-n.result c.judge-v.new.masks most, c.state_count-n.ensures, accepted-fits _ _ c.judge-v.ensures.verdict c.in-Ok.is)
+    let v = c.judge-v.ensures.verdict in
+    omega (arith, length-take {A = ℕ}, c.state_count-n.ensures, accepted-fits _ _ v c.in-Ok.is, accepted-most _ _ v c.in-Ok.is)
 
 pub returns-in-Err : goal.returns-in-Err
 returns-in-Err c =

@@ -1,8 +1,8 @@
 -- `ntif::check_on` meets its contract. Assumes nothing.
 use mathlib.Core.{Path.ap, List.◌++◌}
-use Prim.Native.Nat.{◌≤◌}
+use Prim.Native.Nat.{ℕ}
 use native.Mathlib.Omega.{arith}
-use lib.{ListN.length, ListN.drop, Seq.length-take-le}
+use lib.ListN.{drop, length-take}
 use Rattle.ntif.proofs.Checking.{accepted-trailer, accepted-rooted, accepted-fits, accepted-most, checked_refused, checked-accepted}
 use Rattle.ntif.proofs.check_on.Goals as goal
 
@@ -17,20 +17,19 @@ slice_bounds-copy_from_slice-end c = omega (arith, c.state_count-n.ensures, acce
 
 pub slice_bounds-copy_from_slice-end-in-Ok : goal.slice_bounds-copy_from_slice-end-in-Ok
 slice_bounds-copy_from_slice-end-in-Ok c =
-    omega (arith, length-take-le c.state_count-n.result c.args.sets.now (omega (arith, c.state_count-n.ensures, accepted-fits _ _ c.judge-v.ensures.verdict c.in-Ok.is)))
+    omega (arith, length-take {A = ℕ}, c.state_count-n.ensures, accepted-fits _ _ c.judge-v.ensures.verdict c.in-Ok.is)
 
 pub slice_bounds-copy_from_slice-end-in-Ok-2 : goal.slice_bounds-copy_from_slice-end-in-Ok-2
 slice_bounds-copy_from_slice-end-in-Ok-2 c = omega (arith, c.state_count-n.ensures, accepted-most _ _ c.judge-v.ensures.verdict c.in-Ok.is)
 
 pub slice_bounds-copy_from_slice-end-in-Ok-3 : goal.slice_bounds-copy_from_slice-end-in-Ok-3
 slice_bounds-copy_from_slice-end-in-Ok-3 c =
-    omega (arith, length-take-le c.state_count-n.result c.judge-v.new.masks (omega (arith, c.state_count-n.ensures, accepted-most _ _ c.judge-v.ensures.verdict c.in-Ok.is)))
+    omega (arith, length-take {A = ℕ}, c.state_count-n.ensures, accepted-most _ _ c.judge-v.ensures.verdict c.in-Ok.is)
 
 pub copy_from_slice-requires : goal.copy_from_slice-requires
 copy_from_slice-requires c =
-    let fits : c.state_count-n.result ≤ length c.args.sets.now = omega (arith, c.state_count-n.ensures, accepted-fits _ _ c.judge-v.ensures.verdict c.in-Ok.is) in
-    let most : c.state_count-n.result ≤ length c.judge-v.new.masks = omega (arith, c.state_count-n.ensures, accepted-most _ _ c.judge-v.ensures.verdict c.in-Ok.is) in
-    omega (arith, length-take-le c.state_count-n.result c.args.sets.now fits, length-take-le c.state_count-n.result c.judge-v.new.masks most)
+    let v = c.judge-v.ensures.verdict in
+    omega (arith, length-take {A = ℕ}, c.state_count-n.ensures, accepted-fits _ _ v c.in-Ok.is, accepted-most _ _ v c.in-Ok.is)
 
 pub returns-in-Err : goal.returns-in-Err
 returns-in-Err c = checked_refused _ _ _ c.judge-v.ensures.verdict c.in-Err.is
