@@ -95,12 +95,6 @@ pub fn start(image: &[u8], params: &[i32], store: &mut [i32]) -> Result<(), Refu
 // One word more than an image has variables: a longer slice is refused as this many words are.
 const WORDS: usize = 65;
 
-fn capped(n: usize, most: usize) -> usize
-    ensures { result ≡ min n most }
-{
-    if n < most { n } else { most }
-}
-
 // start on bytes, with words that its caller lends; of the store only its length is read.
 fn start_bytes_on(
     image: &[u8],
@@ -129,8 +123,8 @@ pub fn ntif_start(image: &[u8], params: &[u8], store: &mut [u8]) -> u64
 {
     let mut given = [0i32; WORDS];
     let mut slots = [0i32; WORDS];
-    let n = capped(params.len() / 4, WORDS);
-    let m = capped(store.len() / 4, WORDS);
+    let n = (params.len() / 4).min(WORDS);
+    let m = (store.len() / 4).min(WORDS);
     start_bytes_on(image, params, store, &mut given[..n], &mut slots[..m])
 }
 
@@ -152,10 +146,7 @@ pub fn step(
 fn state_of(q: u32) -> State
     ensures { result ≡ state (min q 65535) }
 {
-    if q < 65535 {
-        return State(q as u16);
-    }
-    State(65535)
+    State(q.min(65535) as u16)
 }
 
 // The next state from bit 8, the units from bit 16, the words from bit 40 on.
@@ -208,8 +199,8 @@ pub fn ntif_step(
 {
     let mut slots = [0i32; WORDS];
     let mut ten = [0i32; Image::LABEL as usize];
-    let n = capped(store.len() / 4, WORDS);
-    let m = capped(label.len() / 4, Image::LABEL as usize);
+    let n = (store.len() / 4).min(WORDS);
+    let m = (label.len() / 4).min(Image::LABEL as usize);
     step_bytes_on(
         image,
         q,
