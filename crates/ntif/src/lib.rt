@@ -40,7 +40,7 @@ pub fn check(image: &[u8], sets: &mut [u64]) -> Result<(), Refusal>
     check_on(image, sets, &mut masks)
 }
 
-// A refusal's number, and its place from bit 16 on.
+// A refusal's number, and its place from bit 16 on: the C interface takes one number.
 fn pack_refusal(y: Refusal) -> u64
     ensures { result ≡ pack_refusal y }
 {

@@ -10,7 +10,8 @@ ghost use Rattle.told.specs.Told.{run_of, refusal_of, outcome_of, OfRun, Tells, 
 use actions::Run;
 use model::{Image, Outcome, Refusal, Row, State};
 
-// A run's state, and room for a label's values.
+// A run's state, and room for a label's values. A struct was tried and was slower: each row copied it through memory
+// (docs/DECISIONS.md, 62).
 pub const SLOTS: usize = 5;
 
 pub type Slots = [usize; SLOTS];
@@ -28,7 +29,7 @@ const GATE: usize = 3;
 
 const COUNT: usize = 4;
 
-// An action that ended.
+// An action that ended. An enum for how it ended was tried and was slower, by the same copies.
 pub const ENDS: u32 = 0;
 
 // The least number of one that stopped.
