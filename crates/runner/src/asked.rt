@@ -21,21 +21,12 @@ const PARAMETERS: usize = 65;
 
 const WORDS: usize = 1024;
 
-fn same(a: &[u8], b: &[u8]) -> bool {
-    a == b
-}
-
 pub(crate) fn option(word: &[u8]) -> Wish {
-    if same(word, b"-h") {
-        return Wish::Help;
+    match word {
+        b"-h" | b"--help" => Wish::Help,
+        b"--unchecked" => Wish::Unchecked,
+        _ => Wish::Checked,
     }
-    if same(word, b"--help") {
-        return Wish::Help;
-    }
-    if same(word, b"--unchecked") {
-        return Wish::Unchecked;
-    }
-    Wish::Checked
 }
 
 fn argument(rt: &impl Env, i: usize) -> Word {
