@@ -24,6 +24,8 @@ const TEXT: usize = 524288;
 // Lengths of images of zeros that no line says well.
 const ZEROS: [usize; 9] = [0, 1, 15, 16, 37, 38, 16816, 16817, 65000];
 
+// The reading of the lines stands in cases and in stepcases: one function of both, over a closure, is no plainer, since it
+// could promise nothing of what is read or written.
 fn main(rt: HostRuntime) -> io::Result<()> {
     let mut text = Vec::new(rt.alloc());
     rt.reader().take(TEXT as u64).read_to_end(&mut text)?;

@@ -25,6 +25,8 @@ use std::io::Read;
 // Room for all of standard input.
 const TEXT: usize = 524288;
 
+// The reading of the lines stands in cases and in stepcases: one function of both, over a closure, is no plainer, since it
+// could promise nothing of what is read or written.
 fn main(rt: HostRuntime) -> io::Result<()> {
     let mut text = Vec::new(rt.alloc());
     rt.reader().take(TEXT as u64).read_to_end(&mut text)?;
