@@ -6,6 +6,7 @@ use graph::draw;
 use loading::load_image;
 use std::io;
 
+// As in lister and explain but for the call: over a closure no plainer, since its bound would have to be asked of it.
 fn main(rt: HostRuntime) -> io::Result<()> {
     let image = load_image(rt.reader(), rt.alloc())?;
     let mut text = [0u8; 262144];
