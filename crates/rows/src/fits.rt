@@ -48,15 +48,13 @@ fn list_fits(x: &Automaton, lines: &[u32; CODES], most: u16, n: u16) -> bool
     ensures { result ≡ list_fits (tables x.now) most n }
 {
     let mut at = n;
-    let mut left = most;
-    while at != Image::NONE {
-        if left == 0 {
-            return false;
+    for _ in 0..most {
+        if at == Image::NONE {
+            return true;
         }
-        left -= 1;
         at = next_of(x, lines, at);
     }
-    true
+    at == Image::NONE
 }
 
 // A row of kind k below row r, or none.
