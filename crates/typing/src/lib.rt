@@ -12,51 +12,27 @@ use model::{Image, Refusal, Row};
 
 const TAU: u16 = 0;
 
-// The operators' table: the type of the operands and the type of the result, by code from 16 on.
-const OPERANDS: [u16; 12] = [
-    Image::BOOL, // 16 not
-    Image::BOOL, // 17 and
-    Image::BOOL, // 18 or
-    Image::INT, // 19 negate
-    Image::INT, // 20 plus
-    Image::INT, // 21 minus
-    Image::INT, // 22 times
-    Image::INT, // 23 quotient
-    Image::INT, // 24 remainder
-    Image::NONE, // 25 equal
-    Image::INT, // 26 less
-    Image::INT, // 27 less or equal
-];
-
-const RESULTS: [u16; 12] = [
-    Image::BOOL, // 16 not
-    Image::BOOL, // 17 and
-    Image::BOOL, // 18 or
-    Image::INT, // 19 negate
-    Image::INT, // 20 plus
-    Image::INT, // 21 minus
-    Image::INT, // 22 times
-    Image::INT, // 23 quotient
-    Image::INT, // 24 remainder
-    Image::BOOL, // 25 equal
-    Image::BOOL, // 26 less
-    Image::BOOL, // 27 less or equal
-];
-
+// The type of an operator's operands; NONE where they are of one type, whichever that is.
 fn operand_type(code: u16) -> u16
     requires { Operator code }
     ensures { result ≡ operand_of code }
 {
-    let at = (code - 16) as usize;
-    OPERANDS[at]
+    match code {
+        16..=18 => Image::BOOL, // not, and, or
+        25 => Image::NONE, // equal
+        _ => Image::INT, // negate to remainder, less, less or equal
+    }
 }
 
+// The type of an operator's result.
 fn result_type(code: u16) -> u16
     requires { Operator code }
     ensures { result ≡ result_of code }
 {
-    let at = (code - 16) as usize;
-    RESULTS[at]
+    match code {
+        19..=24 => Image::INT, // negate to remainder
+        _ => Image::BOOL, // not, and, or, the comparisons
+    }
 }
 
 // Operands of the types s and t are what the operator takes.
