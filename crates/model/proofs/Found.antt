@@ -13,18 +13,11 @@ use Rattle.std.specs.Iterator.{YieldsThen}
 use Rattle.std.specs.List.{FoldsTo}
 use Rattle.std.specs.Option.{MatchOption}
 use Rattle.std.proofs.iter.Yields.{nat_range_steps}
+use Rattle.std.proofs.lemmas.Bool.{not-false, not-true}
 use Rattle.std.proofs.lemmas.Iterator.{first_from_Range}
 use Rattle.model.specs.declared.{Refusal.Refusal}
 use Rattle.model.specs.Answers.{lowest, each, lowest_failing}
 use Rattle.model.proofs.Order.{lowest-is, lowest-full}
-
-not-false : (b : Bool) → not b ≡ true → b ≡ false
-not-false true e = cc
-not-false false e = refl
-
-not-true : (b : Bool) → not b ≡ false → b ≡ true
-not-true true e = refl
-not-true false e = cc
 
 module _ (p : ℕ → Bool) (n : ℕ) where
   abbrev First : Option ℕ → Type 0
@@ -41,8 +34,8 @@ pub found : {F : Type 0} {g : Mut F (Bor ℕ × Unit {0}) Bool} (p : ℕ → Boo
     → ((x : ℕ) (b : Bool) (q : F) → CalledAt g f x b q → (q ≡ f) × (b ≡ not (p x)))
     → n ≡ m → r ≡ lowest_failing p m
 found p {n} {m} u f r ran calls e =
-    first-lowest p n r (first_from_Range (record { start = 0; end = n }) u f r (λ i. p i ≡ false) (λ i. p i ≡ true) ran (λ x q k. not-false (p x) (sym (calls x true q k).1))
-    (λ x q k. let c = calls x false q k in (c.0, not-true (p x) (sym c.1))))
+    first-lowest p n r (first_from_Range (record { start = 0; end = n }) u f r (λ i. p i ≡ false) (λ i. p i ≡ true) ran (λ x q k. not-true (p x) (sym (calls x true q k).1))
+    (λ x q k. let c = calls x false q k in (c.0, not-false (p x) (sym c.1))))
     ∙ ap (lowest_failing p) e
 
 -- the verdict where one is found, and where none is
