@@ -1,14 +1,14 @@
 // What a row's ways take from rows that are no actions: a condition, a subject's type, the patterns of arms.
 ghost use Rattle.image.specs.Located.{tables};
-ghost use Rattle.std.specs.Prelude.{◌≡◌, ◌≤◌};
+ghost use Rattle.std.specs.Prelude.{◌≡◌};
 ghost use Rattle.model.specs.Rows.{expression, pattern, arm};
 ghost use Rattle.model.specs.Decode.{condition_at, pattern_at};
-ghost use Rattle.model.specs.Masks.{full};
 ghost use Rattle.model.specs.Speech.{is_always};
 ghost use Rattle.speech.specs.Filled.{arms_at};
 ghost use Rattle.speech.specs.Case.{OfKind, OrNone, CaseOf, TypeIs, CaughtAs, CaughtBy, ValueBit, all_in, exhaustive_at};
 
 use image::Automaton;
+use masks::{bit, full, inside};
 use model::Image;
 
 // The condition of an any, or none: whether it is the constant true.
@@ -51,7 +51,7 @@ fn value_bit(code: u16, value: u16) -> u64
 {
     if code == 34 {
         if value < 64 {
-            return 1 << value;
+            return bit(value);
         }
     }
     0
@@ -87,27 +87,11 @@ fn arms_catch(x: &Automaton, first: u16) -> Caught
     Caught { all, values }
 }
 
-// The mask of all values below n.
-fn full_mask(n: u16) -> u64
-    requires { n ≤ 64 }
-    ensures { result ≡ full n }
-{
-    if n == 64 {
-        0xFFFF_FFFF_FFFF_FFFF
-    } else {
-        (1 << n) - 1
-    }
-}
-
 // A case has at most 64 arms, so a type of more values isn't caught value by value.
 fn all_in(values: u64, n: u16) -> bool
     ensures { result ≡ all_in values n }
 {
-    if n > 64 {
-        return false;
-    }
-    let all = full_mask(n);
-    (all & values) == all
+    n <= 64 && inside(full(n), values)
 }
 
 // Figure 11: the arms catch every value of the subject's type.

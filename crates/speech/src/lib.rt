@@ -48,12 +48,8 @@ fn fill(x: &Automaton, ways: &mut [u8])
     requires { Lent x.now.image.now x.now.trailer ways.old }
     ensures { Filled (tables x.now) (row_count x.now.trailer) ways.new }
 {
-    let n = x.row_count();
-    let mut r: u16 = 0;
-    while r < n {
-        let w = row_ways(x, r, ways);
-        ways[r as usize] = w.packed();
-        r += 1;
+    for r in 0..x.row_count() {
+        ways[r as usize] = row_ways(x, r, ways).packed();
     }
 }
 

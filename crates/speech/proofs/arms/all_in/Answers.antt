@@ -2,8 +2,8 @@
 use Rattle.speech.proofs.Sixty.{all-in-not, all-in-is}
 use Rattle.speech.proofs.arms.all_in.Goals as goal
 
-pub returns-then-n-gt64 : goal.returns-then-n-gt64
-returns-then-n-gt64 c = all-in-not c.args.values _ c.if-n-gt64.true
+pub returns-then-n-le64 : goal.returns-then-n-le64
+returns-then-n-le64 c = all-in-is c.args.values _ _ _ c.if-n-le64.true c.full.ensures c.inside.ensures
 
-pub returns : goal.returns
-returns c = all-in-is c.args.values _ _ c.if-n-gt64.false c.full_mask-all.ensures
+pub returns-else-n-le64 : goal.returns-else-n-le64
+returns-else-n-le64 c = all-in-not c.args.values _ c.if-n-le64.false
