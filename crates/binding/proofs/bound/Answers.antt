@@ -1,13 +1,10 @@
 -- `binding::bound` meets its contract: one line for each arm. Assumes nothing.
 use mathlib.Core.Path.{◌∙◌}
-use Rattle.binding.proofs.RowRules.{rule-row, rule-condition, rule-other, rule-vector, rule-offers, rule-for, at-vector, at-communicate, at_low, at_high}
+use Rattle.binding.proofs.RowRules.{rule-condition, rule-other, rule-vector, rule-offers, rule-for, at-vector, at-communicate, at_low, at_high}
 use Rattle.binding.proofs.bound.Goals as goal
 
 pub returns-then-r-x : goal.returns-then-r-x
 returns-then-r-x c = rule-condition c.requires _ _ c.if-r-x.true c.masks_in.ensures c.inside.ensures
-
-pub fields-w-requires : goal.fields-w-requires
-fields-w-requires c = rule-row c.requires
 
 pub bound_offers-requires : goal.bound_offers-requires
 bound_offers-requires c = rule-offers c.requires _ c.fields-w.ensures c.in-52.is

@@ -1,11 +1,8 @@
 -- `binding::bound_offers` meets its contract. The loop's invariant: the rule of the rest of the list is that of the whole.
 -- Assumes nothing.
-use mathlib.Core.Path.{refl, ◌∙◌}
+use mathlib.Core.Path.{◌∙◌}
 use Rattle.binding.proofs.OfferLists.{offers-over, offer-row, offer-next, offer-less, offer-defines, offer-uses, offer-passes}
 use Rattle.binding.proofs.bound_offers.Goals as goal
-
-pub loop-r-init : goal.loop-r-init
-loop-r-init c = (c.requires, refl)
 
 pub fields-w-requires : goal.fields-w-requires
 fields-w-requires c = offer-row c.loop-r.invariant.0 c.loop-r-test.true

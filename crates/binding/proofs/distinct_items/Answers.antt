@@ -1,11 +1,8 @@
 -- `binding::distinct_items` meets its contract. The loop's invariant: the rule of the rest of the list is that of the whole.
 -- Assumes nothing.
-use mathlib.Core.Path.{refl, ◌∙◌}
+use mathlib.Core.Path.{◌∙◌}
 use Rattle.binding.proofs.Vectors.{vector-over, vector_row, vector-item, vector-bit, vector-next, vector-less, vector-fails, vector-passes}
 use Rattle.binding.proofs.distinct_items.Goals as goal
-
-pub loop-r-init : goal.loop-r-init
-loop-r-init c = (c.requires, refl)
 
 pub fields-w-requires : goal.fields-w-requires
 fields-w-requires c = vector_row c.loop-r.invariant.0 c.loop-r-test.true

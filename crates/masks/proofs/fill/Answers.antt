@@ -3,7 +3,7 @@ use native.Mathlib.Omega.{arith}
 use mathlib.Core.Path.{◌∙◌}
 use lib.ListN.{length-take}
 use Rattle.image.proofs.Laid.{rows-count}
-use Rattle.masks.proofs.Filling.{fit-front, filled-front}
+use Rattle.masks.proofs.Filling.{fit-front}
 use Rattle.masks.proofs.fill.Goals as goal
 
 pub slice_bounds-fill_rows-end : goal.slice_bounds-fill_rows-end
@@ -14,6 +14,3 @@ slice_bounds-fill_rows-end-2 c = simp length-take (omega (arith, c.requires.size
 
 pub fill_rows-requires : goal.fill_rows-requires
 fill_rows-requires c = fit-front c.requires (c.row_count-n.ensures ∙ rows-count c.requires.rooted.formed.located)
-
-pub returns : goal.returns
-returns c = filled-front _ c.fill_rows.ensures

@@ -10,9 +10,6 @@ pub returns-then-n-eq64 : goal.returns-then-n-eq64
 unfolding full
 returns-then-n-eq64 c = rw c.if-n-eq64.true
 
-pub bit-requires : goal.bit-requires
-bit-requires c = omega arith
-
 pub overflow_sub-result : goal.overflow_sub-result
 unfolding bit
 overflow_sub-result c = omega (arith, c.bit.ensures, pow_pos c.args.n)

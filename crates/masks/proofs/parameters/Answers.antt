@@ -1,5 +1,4 @@
 -- `masks::parameters` meets its contract: the mask of the variables passed, halved as often. Assumes nothing.
-use mathlib.Core.Path.{◌∙◌, ◌≡◌}
 use native.Mathlib.Omega.{arith}
 use Rattle.image.proofs.Laid.{variables-count}
 use Rattle.masks.proofs.ParameterMask.{from-none, double-fits, one-fits, one_on}
@@ -22,6 +21,3 @@ loop-v-preserved c = (
   omega arith,
   one_on c.requires _ _ c.loop-v-test.true c.loop-v.invariant.0 c.loop-v.invariant.1 _ c.parameter.ensures,
 )
-
-pub returns : goal.returns
-returns c = let e : c.loop-v.v ≡ 0 = omega arith in c.loop-v.invariant.1 ∙ rw e

@@ -3,9 +3,6 @@ use native.Mathlib.Omega.{arith}
 use Rattle.sets.proofs.Finding.{begin-some, begun-all}
 use Rattle.sets.proofs.begin.Goals as goal
 
-pub parameters-requires : goal.parameters-requires
-parameters-requires c = c.requires.formed
-
 pub bounds-sets-0 : goal.bounds-sets-0
 bounds-sets-0 c = omega (arith, begin-some c.requires, c.fill.ensures.len)
 

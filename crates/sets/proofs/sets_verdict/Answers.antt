@@ -3,7 +3,7 @@ use mathlib.Core.Path.{◌∙◌}
 use native.Mathlib.Omega.{arith}
 use lib.ListN.{length-take}
 use Rattle.image.proofs.Laid.{rows-count}
-use Rattle.sets.proofs.Finding.{found_of, front}
+use Rattle.sets.proofs.Finding.{front}
 use Rattle.sets.proofs.sets_verdict.Goals as goal
 
 pub slice_bounds-initialisation-end : goal.slice_bounds-initialisation-end
@@ -14,6 +14,3 @@ initialisation-requires c = record {
   rows = front c.requires.lending (c.row_count-rows.ensures ∙ rows-count c.requires.lending.rooted.formed.located);
   size = simp length-take (omega (arith, c.state_count-states.ensures, c.requires.room));
 }
-
-pub returns : goal.returns
-returns c = found_of _ _ c.state_count-states.ensures c.initialisation.ensures

@@ -1,11 +1,7 @@
 -- `judged`: the invariant is that the states below s pass. Assumes nothing.
-use native.Mathlib.Omega.{arith}
 use mathlib.Core.Path.{sym, ◌∙◌}
-use Rattle.speech.proofs.States.{begun, state-of, in-u16, in-ways, speaks-well, passed, refused, accepted}
+use Rattle.speech.proofs.States.{begun, state-of, in-ways, speaks-well, passed, refused, accepted}
 use Rattle.speech.proofs.judged.Goals as goal
-
-pub state_count-n-requires : goal.state_count-n-requires
-state_count-n-requires c = c.requires.lent.rooted.formed.located
 
 pub loop-s-init : goal.loop-s-init
 loop-s-init c = begun c.state_count-n.ensures
@@ -18,12 +14,6 @@ ends_right-requires c = in-ways c.requires c.loop-s.invariant c.loop-s-test.true
 
 pub returns-then-not-ends_right : goal.returns-then-not-ends_right
 returns-then-not-ends_right c = refused c.requires c.loop-s.invariant c.loop-s-test.true (sym (speaks-well c.requires c.loop-s.invariant c.loop-s-test.true c.state_row-r.ensures c.ends_right.ensures) ∙ c.if-not-ends_right.true)
-
-pub overflow_add-s : goal.overflow_add-s
-overflow_add-s c = record { fits = in-u16 c.requires c.loop-s.invariant c.loop-s-test.true }
-
-pub loop-s-smaller : goal.loop-s-smaller
-loop-s-smaller c = omega (arith, c.loop-s-test.true)
 
 pub loop-s-preserved : goal.loop-s-preserved
 loop-s-preserved c = passed c.requires c.loop-s.invariant c.loop-s-test.true (sym (speaks-well c.requires c.loop-s.invariant c.loop-s-test.true c.state_row-r.ensures c.ends_right.ensures) ∙ c.if-not-ends_right.false)

@@ -17,9 +17,6 @@ pub returns-then-new-old : goal.returns-then-new-old
 unfolding meet
 returns-then-new-old c = still-jump c.requires c.fields-w.ensures _ _ refl c.if-new-old.true
 
-pub bounds-out-q-2 : goal.bounds-out-q-2
-bounds-out-q-2 c = jump-inside c.requires c.fields-w.ensures
-
 pub bit-requires : goal.bit-requires
 bit-requires c = jump_small c.requires c.fields-w.ensures
 
