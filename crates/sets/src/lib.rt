@@ -8,7 +8,7 @@ ghost use Rattle.std.specs.Prelude.{◌≡◌, ◌<◌};
 ghost use Rattle.model.specs.Largest.{begun};
 ghost use Rattle.sets.specs.States.{Lowest, Marked, Beginning, Staged, Settled, Judged, EachState, Room, Found};
 
-use flow::{Lent, walk};
+use flow::{Findings, Lent, walk};
 use image::Automaton;
 use masks::{Masks, bit, full, parameters, without};
 use model::{Refusal, State};
@@ -55,13 +55,15 @@ fn settle(lent: &Lent, sets: &mut [u64]) -> u64
         let row = lent.x.state_row(s);
         let led = lent.masks[row as usize].leads;
         let set = sets[s as usize];
-        let mut moved: u64 = 0;
-        let mut fine = true;
-        walk(lent, row, set, sets, &mut moved, &mut fine);
+        let mut found = Findings {
+            moved: 0,
+            fine: true,
+        };
+        walk(lent, row, set, sets, &mut found);
         let here = bit(s);
         walked = walked | here;
-        due = without(due, here) | (led & moved) | without(led, walked);
-        wrong = mark(wrong, s, fine);
+        due = without(due, here) | (led & found.moved) | without(led, walked);
+        wrong = mark(wrong, s, found.fine);
     }
     wrong
 }
