@@ -7,12 +7,12 @@ use lib.{ListN.length, ListN.take, ListN.length-take, Seq.get_or-take}
 use Rattle.model.specs.declared.{Image.Image, Refusal.TheVariants.Binding}
 use Rattle.model.specs.Answers.{row, lowest}
 use Rattle.model.specs.Image.{tables_of, row_count}
-use Rattle.model.specs.Binding.{parameters_of, bound}
+use Rattle.model.specs.Binding.{bound}
 use Rattle.model.proofs.Order.{lowest-full, each-full, each-refuses}
 use Rattle.image.proofs.Laid.{rows-count}
 use Rattle.masks.specs.declared.Masks.{Masks}
 use Rattle.masks.specs.Masks.{masks}
-use Rattle.binding.specs.Bound.{binding_verdict, Masked, Ruled, Rule}
+use Rattle.binding.specs.Bound.{binding_verdict, Masked, Ruled}
 use Rattle.binding.proofs.Readings.{few}
 
 pub start : (p : ℕ → Bool) → lowest p 0 ≡ 0
@@ -21,9 +21,6 @@ start p = lowest-full p 0 (λ k h. absurd (omega arith))
 module _ {s : List ℕ} {i : Image} {ms : List Masks} (h : Ruled s i ms) where
   pub rows_few : length ms ≤ 2048
   rows_few = omega (arith, h.exact.size, few h.rooted)
-
-  pub rule-at : {r allowed : ℕ} → allowed ≡ parameters_of (tables_of s).variables → r < length ms → Rule s i r ms allowed
-  rule-at e k = record { ruled = h; inside = omega (arith, h.exact.size); parameters = e }
 
   all-rows : length ms ≡ length (tables_of s).rows
   all-rows = h.exact.size ∙ sym (rows-count h.rooted.formed.located)

@@ -13,7 +13,6 @@ use Rattle.model.specs.Binding.{bound_act, distinct, parameters_of, bound}
 use Rattle.model.proofs.Rows.{Formed, Named, Row, row_of, row_is, is-kind, both_true, and-true}
 use Rattle.model.proofs.Codes.{shape-past}
 use Rattle.model.proofs.Decode.{action_at-is}
-use Rattle.image.specs.Located.{RowOf}
 use Rattle.image.proofs.Laid.{condition-is}
 use Rattle.masks.specs.declared.Masks.{Masks}
 use Rattle.masks.specs.Masks.{use_at, def_at, masks_in}
@@ -118,9 +117,6 @@ starts-of (inl e) = inl e
 starts-of (inr p) = inr p.0.kind
 
 module _ {s : List ℕ} {i : Image} {r : ℕ} {ms : List Masks} {allowed : ℕ} (h : Rule s i r ms allowed) where
-  pub rule-row : RowOf s i r
-  rule-row = record { located = h.ruled.rooted.formed.located; inside = h.inside }
-
   condition-at : i.condition ≡ (tables_of s).condition
   condition-at = sym (condition-is h.ruled.rooted.formed.located)
 

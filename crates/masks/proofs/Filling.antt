@@ -1,13 +1,13 @@
 -- One row more: what holds while the masks are filled in, lowest row first. Assumes nothing.
-use mathlib.Core.{Path.◌≡◌, Path.sym, Path.◌∙◌, Logic.◌⊎◌, Logic.inl, Logic.inr, Logic.⊎_elim, List.List, List.◌++◌}
+use mathlib.Core.{Path.◌≡◌, Path.sym, Path.◌∙◌, Logic.◌⊎◌, Logic.inl, Logic.inr, Logic.⊎_elim, List.List}
 use Prim.Native.Nat.{ℕ, ◌+◌, ◌≤◌, ◌<◌}
 use native.Mathlib.{Nat.eq-or-lt_of_le, Omega.arith}
-use lib.{ListN.length, ListN.set, ListN.take, ListN.length-set, ListN.length-take, ListN.length-append, ListN.get_or-eq_default, ListN.get_or-append, Seq.get_or-set_same, Seq.get_or-set_other}
+use lib.{ListN.length, ListN.set, ListN.take, ListN.length-set, ListN.length-take, ListN.get_or-eq_default, Seq.get_or-set_same, Seq.get_or-set_other}
 use Rattle.model.specs.declared.{Fields.Fields, Image.Image}
 use Rattle.model.specs.Image.{Tables, none, tables_of, fields_of, row_count}
 use Rattle.model.specs.Rows.{shape_of}
 use Rattle.model.proofs.Rows as Model
-use Rattle.image.specs.Located.{Located, RowOf, Formed}
+use Rattle.image.specs.Located.{Located, Formed}
 use Rattle.image.proofs.Laid.{laid, rows-count, variables-count, states-count}
 use Rattle.masks.specs.declared.Masks.{Masks}
 use Rattle.masks.specs.Masks.{masks, masks_at, masks_in, Filled}
@@ -49,9 +49,6 @@ module _ {s : List ℕ} {i : Image} where
     filled = record { each = λ r h. absurd (omega arith); size = omega arith };
   }
 
-  pub row_here : {r : ℕ} {ms : List Masks} → Filling s i r ms → r < row_count i → RowOf s i r
-  row_here f h = record { located = f.fit.rooted.formed.located; inside = h }
-
   pub row_small : (r : ℕ) {ms : List Masks} (w : Fields) → Filling s i r ms → w ≡ fields_of (tables_of s) r
       → Small (shape_of w.code).means w.a
   row_small r w f g =
@@ -90,10 +87,3 @@ module _ {s : List ℕ} {i : Image} where
 
   pub fit-front : {n : ℕ} {ms : List Masks} → Lent s i ms → n ≡ row_count i → Fit s i (take n ms)
   fit-front f e = record { rooted = f.rooted; size = simp length-take (omega (arith, f.size)) }
-
--- what stands after the filled entries doesn't matter
-pub filled-front : {x : Tables} {n : ℕ} {ms : List Masks} (rest : List Masks) → Filled x n ms → Filled x n (ms ++ rest)
-filled-front {ms = ms} rest f = record {
-  each = λ r q. get_or-append ms rest (masks 0 0 0) r (omega (arith, f.size)) ∙ f.each r q;
-  size = simp length-append (omega (arith, f.size));
-}

@@ -1,12 +1,12 @@
 -- The largest sets: where they begin, that they are found when nothing is due; and 11 judged there. Assumes nothing.
 use Rattle.std.specs.Prelude.{Ok, Err}
-use mathlib.Core.{Path.◌≡◌, Path.refl, Path.sym, Path.ap, Path.◌∙◌, Bool.Bool, Bool.true, Bool.false, Bool.not, Bool.cond, Bool.◌||◌, Bool.not-not, List.List, List.◌++◌}
+use mathlib.Core.{Path.◌≡◌, Path.refl, Path.sym, Path.ap, Path.◌∙◌, Bool.Bool, Bool.true, Bool.false, Bool.not, Bool.cond, Bool.◌||◌, Bool.not-not, List.List}
 use Prim.Native.Nat.{ℕ, ◌+◌, ◌^◌, ◌<◌}
 use native.Mathlib.{Omega.arith, Decide.ℕ_discrete}
-use lib.{Bits.bit_and, Bits.bit_or, Dec.eqb, ListN.length, ListN.get_or, ListN.take, ListN.length-take, ListN.drop, Pow.pow_mono, ListN.set, ListN.length-set, ListN.replicate, ListN.length-replicate, ListN.get_or-replicate, Seq.get_or-set_same, Seq.get_or-set_other, Seq.get_or-take, Seq.ext_get_or}
+use lib.{Bits.bit_and, Bits.bit_or, Dec.eqb, ListN.length, ListN.get_or, ListN.take, ListN.length-take, Pow.pow_mono, ListN.set, ListN.length-set, ListN.replicate, ListN.length-replicate, ListN.get_or-replicate, Seq.get_or-set_same, Seq.get_or-set_other, Seq.get_or-take, Seq.ext_get_or}
 use borrow.Author.Tests.{ne_eqb, eqb-true, eqb-false}
 use Rattle.model.specs.declared.{Image.Image, Refusal.TheVariants.Initialisation}
-use Rattle.model.specs.Answers.{state, Verdict}
+use Rattle.model.specs.Answers.{state}
 use Rattle.model.specs.Masks.{digit, Has, has, bit, full, without}
 use Rattle.model.specs.Image.{Tables, none, tables_of, state_count, row_count}
 use Rattle.model.specs.Binding.{parameters_of}
@@ -22,7 +22,7 @@ use Rattle.demands.proofs.Greatest.{Leads, reached-all, reached-in, at_rest, one
 use Rattle.demands.proofs.Solved.{sets-length, sets-largest}
 use Rattle.demands.proofs.Reaching.{reached-sound, reached-found}
 use Rattle.sets.specs.Flow.{flow, Walked, Ready}
-use Rattle.sets.specs.States.{set_at, Beginning, Above, Given, Lowest, Marked, Settled, Judged, Lending, Rows, EachState, Found}
+use Rattle.sets.specs.States.{set_at, Beginning, Above, Given, Lowest, Marked, Settled, Judged, Lending, Rows, EachState}
 use Rattle.masks.specs.declared.Masks.{Masks}
 use Rattle.masks.specs.Masks.{masks, masks_in}
 use Rattle.masks.proofs.ParameterMask.{parameters-in}
@@ -205,7 +205,7 @@ module _ {s : List ℕ} {i : Image} {ms : List Masks} {l : List ℕ} (d : EachSt
       let f = d.rows.lending.rooted.formed in
       rw e (begun-above (tables_of s) (parameters-in (tables_of s) f.entries) (omega (arith, (laid f.located).states_least, states-count f.located)))
 
--- no masks after the rows'
+-- the masks of the rows and none after them
 pub front : {s : List ℕ} {i : Image} {n : ℕ} {ms : List Masks} → Lending s i ms → n ≡ row_count i → Rows s i (take n ms)
 front {i = i} {ms = ms} d e = rw e (record {
   lending = record {
@@ -217,6 +217,3 @@ front {i = i} {ms = ms} d e = rw e (record {
   };
   size = simp length-take (omega (arith, d.filled.size));
 })
-
-pub found_of : {x : Tables} {r : Verdict} {l : List ℕ} (was : List ℕ) (n : ℕ) → n ≡ length x.states → Judged x r l → Found x r was (l ++ drop n was)
-found_of was n e j = record { verdict = j.verdict; first = rw (e, j.largest) }

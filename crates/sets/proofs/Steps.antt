@@ -20,7 +20,7 @@ use Rattle.image.proofs.Laid.{laid, states-count}
 use Rattle.masks.specs.declared.Masks.{Masks}
 use Rattle.masks.specs.Masks.{branches_at, arms_at, masks_in}
 use Rattle.sets.specs.Flow.{Flow, flow, flow_branches, flow_arms, Walked, Plain, Sets, Ready, ReadyAs, Single, Loop, ReadyList, Jump, PlainRow}
-use Rattle.sets.proofs.Tests.{meet-sub, join-none, and_assoc, and-loop, and-true, inside-none}
+use Rattle.sets.proofs.Tests.{meet-sub, join-none, and_assoc, and-loop, inside-none}
 use Rattle.sets.proofs.Rest.{no-moves, moves_set, sets-after, Rest, Splits, rest_all, rest-on, rest-last}
 use Rattle.sets.proofs.Rows.{named-list, Base, base-of, action-row, action-is, low-is, use-expression, def-expression, use-range, def-range, use-arms, uses, defs, kind-inside, list-low}
 
@@ -44,10 +44,6 @@ do-plain {top = top} {l = l} {mv = mv} d p = record {
   met = λ q h. sym (ap (meet (get_or l q 0)) (p.jumps top q) ∙ meet-sub (get_or l q 0) top (d.inside q h));
   moves = no-moves l mv;
 }
-
--- no error is raised
-pub do-fine : {f : Flow} {was now' : List ℕ} {mv mv' : ℕ} {ok : Bool} {n : ℕ} → Walked f was now' mv mv' true true n → Walked f was now' mv mv' ok ok n
-do-fine {ok = ok} p = record { ends = p.ends; fine = sym (and-true ok) ∙ ap (λ t. ok && t) p.fine; size = p.size; met = p.met; moves = p.moves }
 
 -- ---- a jump
 module _ (top m q : ℕ) where
@@ -272,12 +268,6 @@ module _ {s : List ℕ} {i : Image} {ms : List Masks} {r top : ℕ} {l : List �
 
   code_is : w.code ≡ (fields_of (tables_of s) r).code
   code_is = ap (λ (v : Fields). v.code) reads
-
-  pub as-jump : w.code ≡ 53 → Jump s i r top l
-  as-jump c = record { formed = j.ready.lent.formed; sets = j.ready.sets; kind = j.ready.kind; code = sym code_is ∙ c }
-
-  pub as-loop : Loop w.code → ReadyAs Loop s i ms r top l
-  as-loop c = record { ready = j.ready; code = (omega (arith, code_is, c.0), omega (arith, code_is, c.1)) }
 
   pub as_plain : (w.code ≡ 53 → ⊥) → (w.code ≡ 55 → ⊥) → (w.code ≡ 56 → ⊥) → (Loop w.code → ⊥) → PlainRow s i ms r
   as_plain c e f g = record {

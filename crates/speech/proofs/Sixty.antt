@@ -1,13 +1,13 @@
 -- The values 0 to 63 as a mask. Assumes nothing.
 use mathlib.Core.{Path.◌≡◌, Path.refl, Path.sym, Path.ap, Path.◌∙◌, Bool.Bool, Bool.true, Bool.false, Bool.◌&&◌, Bool.◌||◌}
-use Prim.Native.Nat.{ℕ, ◌≤◌, ◌<◌, max}
+use Prim.Native.Nat.{ℕ, ◌≤◌, max}
 use native.Mathlib.Omega.{arith}
-use lib.{Dec.eqb, Dec.leb, Bits.bit_or}
-use borrow.Author.Tests.{eqb-true, eqb-false, eq-eqb, ne_eqb, le-leb, lt-leb}
-use Rattle.model.specs.Masks.{digit, has, bit, full, join, inside}
+use lib.{Dec.eqb, Bits.bit_or}
+use borrow.Author.Tests.{eqb-true, eqb-false, eq-eqb, ne_eqb}
+use Rattle.model.specs.Masks.{digit, has, bit, join}
 use Rattle.model.proofs.Masks.{digit-le, digit-zero, digit-bit-here, digit-bit-there, digit-join}
 use Rattle.model.proofs.Rows.{and-false}
-use Rattle.speech.specs.Case.{ValueBit, all_in}
+use Rattle.speech.specs.Case.{ValueBit}
 
 pub has-zero : (k : ℕ) → has 0 k ≡ false
 has-zero k = rw (digit-zero k)
@@ -41,9 +41,3 @@ value_out code value h = record { each = λ k l. has-zero k ∙ sym (ap (λ b. e
 
 pub no_value : (code value : ℕ) → (code ≡ 34 → ⊥) → ValueBit code value 0
 no_value code value f = record { each = λ k l. rw (ne_eqb code 34 f) (has-zero k) }
-
-pub all-in-not : (values n : ℕ) → 64 < n → leb n 64 ≡ all_in values n
-all-in-not values n h = rw (lt-leb n 64 h)
-
-pub all-in-is : (values n all : ℕ) (b : Bool) → n ≤ 64 → all ≡ full n → b ≡ inside all values → b ≡ all_in values n
-all-in-is values n all b h e f = rw (le-leb n 64 h, ← e) f
