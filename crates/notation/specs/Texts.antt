@@ -17,9 +17,14 @@ line_from zero s = s
 line_from (suc k) [] = []
 line_from (suc k) (b ∷ s) = elim (eqb b 10) [ true ↦ line_from k s | false ↦ line_from (suc k) s ]
 
--- 1 for a line's end
-unfoldable pub ends_by : ℕ → ℕ
-ends_by b = elim (eqb b 10) [ true ↦ 1 | false ↦ 0 ]
+-- a line without its end and what stands after it
+unfoldable pub up_to_end : List ℕ → List ℕ
+up_to_end [] = []
+up_to_end (b ∷ s) = elim (eqb b 10) [ true ↦ [] | false ↦ b ∷ up_to_end s ]
+
+-- line k of the notation
+unfoldable pub line_of : ℕ → List ℕ
+line_of k = up_to_end (line_from k notation)
 
 -- the texts of 0 to n - 1, one after another
 unfoldable pub each : (ℕ → List ℕ) → ℕ → List ℕ

@@ -12,7 +12,7 @@ ghost use Rattle.notation.specs.Whole.{explained};
 ghost use Rattle.listing.specs.Gave.{Gave};
 
 use image::{Automaton, trailer};
-use marks::{aim, line, notation_byte, put_lead, put_plain, row_line};
+use marks::{aim, line, put_lead, put_plain, row_line};
 use model::{Fields, Image, Refusal};
 use ntif::check;
 use text::Page;
@@ -96,13 +96,10 @@ pub(crate) fn put_filled(
     requires { 0 < left → Located x.now.image.now x.now.trailer }
     ensures { Written (filled (λ t. row_text left (tables x.now) st t) st a w (line_from k notation)) page.old page.new }
 {
-    let mut j = line(k);
-    let mut b = notation_byte(j);
-    while b != b'\n' {
-        put_plain(page, st, a, w, b);
-        put_row(x, st, aim(a, w, b), left, page);
-        j += 1;
-        b = notation_byte(j);
+    let marks = line(k);
+    for b in marks {
+        put_plain(page, st, a, w, *b);
+        put_row(x, st, aim(a, w, *b), left, page);
     }
 }
 

@@ -1,143 +1,151 @@
 // What the marks of the notation stand for.
-ghost use Rattle.std.specs.Prelude.{◌≡◌, ◌++◌, get_or, drop};
+ghost use Rattle.std.specs.Prelude.{◌≡◌, [], ◌++◌, get_or, map};
 ghost use Rattle.text.specs.Written.{Written};
-ghost use Rattle.notation.specs.Table.{notation};
-ghost use Rattle.notation.specs.Texts.{line_from, ends_by, blanks, padding, type_name, line_end, margin, pointer, line_start, plain_text, deeper, aim_of, lead_text, constant_line, gate_line, row_line};
+ghost use Rattle.notation.specs.Texts.{line_of, blanks, padding, type_name, line_end, margin, pointer, line_start, plain_text, deeper, aim_of, lead_text, constant_line, gate_line, row_line};
 
 use crate::lines::{COMMUNICATE, FALSE, INT, TAU, TRUE, VALUE};
 use crate::{Aim, Style};
 use model::{Fields, Image};
 use text::Page;
 
-const LENGTH: usize = 1490;
+// The lines of the notation.
+const LINES: usize = 116;
 
 // The notation (specs/Table.antt says what its lines are).
-const NOTATION: [u8; LENGTH] = *b"\
-    ?\n\
-    PV0\n\
-    ?\n?\n?\n?\n?\n?\n?\n?\n?\n?\n?\n?\n?\n?\n\
-    Pnot A\n\
-    P(A and B)\n\
-    P(A or B)\n\
-    P(-A)\n\
-    P(A + B)\n\
-    P(A - B)\n\
-    P(A * B)\n\
-    P(A quotient B)\n\
-    P(A remainder B)\n\
-    P(A = B)\n\
-    P(A < B)\n\
-    P(A <= B)\n\
-    ?\n?\n?\n?\n\
-    Pany 5\n\
-    PV0\n\
-    ?\n\
-    PA where B\n\
-    ?\n?\n?\n?\n\
-    \x20!AB\n\
-    \x20?AB\n\
-    ?\n?\n\
-    BQ\n\
-    6Q\n\
-    ?\n\
-    V0 in 3..4\n\
-    LnullE\n\
-    LN := AE\n\
-    LN := any AWE\n\
-    Lreset NE\n\
-    LG0BE\n\
-    Lto S0E\n\
-    AB\n\
-    LselectEAIendE\n\
-    Lcase A isEBIendE\n\
-    L[]EDB\n\
-    L| A ->EFC\n\
-    Lwhile A doEFIendE\n\
-    Lfor A doEFIendE\n\
-    ?\n?\n?\n\
-    V0Q\n\
-    V0Q\n\
-    V0R\n\
-    Pfalse\n\
-    Ptrue\n\
-    P3\n\
-    PT0.1\n\
-    LtauBE\n\
-    image: 0 bytes readE\n\
-    starts: types 0, variables 1, states 2\n\
-    , rows 0Egates 1, condition in row 2\n\
-    , length 0E\n\
-    typesE\n\
-    \x20 T0 bool, number of values 1E\n\
-    \x20 T0 int, number of values 1E\n\
-    \x20 T0, number of values 1E\n\
-    variablesE\n\
-    \x20 V0 6E\n\
-    \x20 V0 6, parameterE\n\
-    \x20 V0 6, second field 2E\n\
-    gates: 0, G1 is tauE\n\
-    condition: AE\n\
-    Mcondition in row 0E\n\
-    statesE\n\
-    MS0 in row 1E\n\
-    Mstate S0EB\n\
-    rowsE\n\
-    L9 0 1 2E\n\
-    \x20 S0 is entered with\n\
-    E\n\
-    acceptedE\n\
-    ?\n\
-    refused 1: image length outside limitsE\n\
-    refused 1: mark or length field wrongE\n\
-    refused 1: starts, table sizes or counts wrongE\n\
-    refused 1: a type or variable entry wrongE\n\
-    refused 1: row malformed: code, field, range, child, list; row 0E\n\
-    refused 1: state's row not an action (condition: not an expression); place 0E\n\
-    refused 1: row not named exactly once; row 0E\n\
-    refused 1: typing; row 0E\n\
-    refused 1: binding; row 0E\n\
-    refused 1: sets buffer shorter than statesE\n\
-    refused 1: initialisation; state 0E\n\
-    refused 1: speech; state 0E\n\
-    digraph automaton {U  node [shape=box, fontname=monospace]U\n\
-    \x20 S0 [label=\"Mstate S0EB\"]U\n\
-    \x20 S0 -> S1 [label=\"\n\
-    \"]U\n\
-    }U\n\
-    \x20 refused [label=\"\n\
-    \x20tau\n\
-    \x20G0\n";
+const NOTATION: [&str; LINES] = [
+    "?",
+    "PV0",
+    "?",
+    "?",
+    "?",
+    "?",
+    "?",
+    "?",
+    "?",
+    "?",
+    "?",
+    "?",
+    "?",
+    "?",
+    "?",
+    "?",
+    "Pnot A",
+    "P(A and B)",
+    "P(A or B)",
+    "P(-A)",
+    "P(A + B)",
+    "P(A - B)",
+    "P(A * B)",
+    "P(A quotient B)",
+    "P(A remainder B)",
+    "P(A = B)",
+    "P(A < B)",
+    "P(A <= B)",
+    "?",
+    "?",
+    "?",
+    "?",
+    "Pany 5",
+    "PV0",
+    "?",
+    "PA where B",
+    "?",
+    "?",
+    "?",
+    "?",
+    " !AB",
+    " ?AB",
+    "?",
+    "?",
+    "BQ",
+    "6Q",
+    "?",
+    "V0 in 3..4",
+    "LnullE",
+    "LN := AE",
+    "LN := any AWE",
+    "Lreset NE",
+    "LG0BE",
+    "Lto S0E",
+    "AB",
+    "LselectEAIendE",
+    "Lcase A isEBIendE",
+    "L[]EDB",
+    "L| A ->EFC",
+    "Lwhile A doEFIendE",
+    "Lfor A doEFIendE",
+    "?",
+    "?",
+    "?",
+    "V0Q",
+    "V0Q",
+    "V0R",
+    "Pfalse",
+    "Ptrue",
+    "P3",
+    "PT0.1",
+    "LtauBE",
+    "image: 0 bytes readE",
+    "starts: types 0, variables 1, states 2",
+    ", rows 0Egates 1, condition in row 2",
+    ", length 0E",
+    "typesE",
+    "  T0 bool, number of values 1E",
+    "  T0 int, number of values 1E",
+    "  T0, number of values 1E",
+    "variablesE",
+    "  V0 6E",
+    "  V0 6, parameterE",
+    "  V0 6, second field 2E",
+    "gates: 0, G1 is tauE",
+    "condition: AE",
+    "Mcondition in row 0E",
+    "statesE",
+    "MS0 in row 1E",
+    "Mstate S0EB",
+    "rowsE",
+    "L9 0 1 2E",
+    "  S0 is entered with",
+    "E",
+    "acceptedE",
+    "?",
+    "refused 1: image length outside limitsE",
+    "refused 1: mark or length field wrongE",
+    "refused 1: starts, table sizes or counts wrongE",
+    "refused 1: a type or variable entry wrongE",
+    "refused 1: row malformed: code, field, range, child, list; row 0E",
+    "refused 1: state's row not an action (condition: not an expression); place 0E",
+    "refused 1: row not named exactly once; row 0E",
+    "refused 1: typing; row 0E",
+    "refused 1: binding; row 0E",
+    "refused 1: sets buffer shorter than statesE",
+    "refused 1: initialisation; state 0E",
+    "refused 1: speech; state 0E",
+    "digraph automaton {U  node [shape=box, fontname=monospace]U",
+    "  S0 [label=\"Mstate S0EB\"]U",
+    "  S0 -> S1 [label=\"",
+    "\"]U",
+    "}U",
+    "  refused [label=\"",
+    " tau",
+    " G0",
+];
 
-// A byte of the notation; past its end a line's end.
-pub(crate) fn notation_byte(j: usize) -> u8
-    ensures { result ≡ get_or notation j 10 }
+// Text k of a table; past its end nothing.
+fn text_at(texts: &[&'static str], k: u32) -> &'static [u8]
+    ensures { result.now ≡ get_or (map (λ t. t.now) texts.now) k [] }
 {
-    if j < LENGTH {
-        return NOTATION[j];
+    if (k as usize) < texts.len() {
+        return texts[k as usize].as_bytes();
     }
-    b'\n'
+    b""
 }
 
-fn is_end(b: u8) -> u32
-    ensures { result ≡ ends_by b }
+// Line k of the notation; past its end nothing.
+pub(crate) fn line(k: u32) -> &'static [u8]
+    ensures { result.now ≡ line_of k }
 {
-    if b == b'\n' {
-        return 1;
-    }
-    0
-}
-
-// Where line k starts.
-pub(crate) fn line(k: u32) -> usize
-    ensures { drop result notation ≡ line_from k notation }
-{
-    let mut left = k;
-    let mut j = 0;
-    while 0 < left {
-        left = left - is_end(notation_byte(j));
-        j += 1;
-    }
-    j
+    text_at(&NOTATION, k)
 }
 
 fn put_blanks(page: &mut Page<'_>, n: u16)
