@@ -32,8 +32,8 @@ module _ (x : Tables) (q r : ℕ) (m : Said) where
 
   -- a row's arrow, its first part, its second part
   pub walked-some : (n : ℕ) (w : Fields) (k : Parts) (e u s t : Said) {a b c d : Page} → (n ≡ 0 → ⊥) → (r ≡ none → ⊥) → w ≡ fields_of x r → k ≡ parts_of w
-      → Written (arrow_text q w m) a b → Walked (n - 1) x q k.first m b c s → e ≡ enters k.kind m s
-      → Walked (n - 1) x q k.second e c d t → u ≡ leaves k.kind w m s t → Walked n x q r m a d u
+      → Written (arrow_text q w m) a b → Walked (n - 1) x q k.first m b c s → e ≡ enters k.order m s
+      → Walked (n - 1) x q k.second e c d t → u ≡ leaves k.order w m s t → Walked n x q r m a d u
   unfolding arrows said_after
   walked-some zero w k e u s t h i f g y z j v l = absurd (h refl)
   walked-some (suc n) w k e u s t {c = c} h i f g y z j v l =

@@ -31,12 +31,21 @@ pub struct Said {
     pub quiet: bool,
 }
 
-// The parts of a row, and how they are gone through: 0 none, 1 one after the other, 2 one or the other, 3 again and again.
+// How a row's parts are gone through: it has none, one after the other, one or the other, again and again.
+#[derive(Clone, Copy)]
+pub enum Order {
+    Leaf,
+    InTurn,
+    Either,
+    Again,
+}
+
+// The parts of a row, and how they are gone through.
 #[derive(Clone, Copy)]
 pub struct Parts {
     pub first: u16,
     pub second: u16,
-    pub kind: u8,
+    pub order: Order,
 }
 
 fn plain_style() -> Style
@@ -99,13 +108,13 @@ fn spoken(m: Said, g: u16) -> Said
     nowhere()
 }
 
-fn parts_at(first: u16, second: u16, kind: u8) -> Parts
-    ensures { result ≡ record { first = first; second = second; kind = kind } }
+fn parts_at(first: u16, second: u16, order: Order) -> Parts
+    ensures { result ≡ record { first = first; second = second; order = order } }
 {
     Parts {
         first,
         second,
-        kind,
+        order,
     }
 }
 
@@ -114,14 +123,14 @@ fn parts_of(w: Fields) -> Parts
 {
     let code = w.code;
     match code {
-        54 => parts_at(w.a, w.b, 1),
-        55 => parts_at(w.a, Image::NONE, 2),
-        56 => parts_at(w.b, Image::NONE, 2),
-        57 => parts_at(w.a, w.b, 2),
-        58 => parts_at(w.b, w.c, 2),
-        59 => parts_at(w.b, Image::NONE, 3),
-        60 => parts_at(w.b, Image::NONE, 3),
-        _ => parts_at(Image::NONE, Image::NONE, 0),
+        54 => parts_at(w.a, w.b, Order::InTurn),
+        55 => parts_at(w.a, Image::NONE, Order::Either),
+        56 => parts_at(w.b, Image::NONE, Order::Either),
+        57 => parts_at(w.a, w.b, Order::Either),
+        58 => parts_at(w.b, w.c, Order::Either),
+        59 => parts_at(w.b, Image::NONE, Order::Again),
+        60 => parts_at(w.b, Image::NONE, Order::Again),
+        _ => parts_at(Image::NONE, Image::NONE, Order::Leaf),
     }
 }
 
@@ -137,28 +146,27 @@ fn after_leaf(w: Fields, m: Said) -> Said
     m
 }
 
-fn enters(k: u8, m: Said, a: Said) -> Said
-    ensures { result ≡ enters k m a }
+// What is said where the second part is entered, after the first.
+fn enters(order: Order, m: Said, a: Said) -> Said
+    ensures { result ≡ enters order m a }
 {
-    if k == 1 {
-        return a;
+    match order {
+        Order::Leaf => m,
+        Order::InTurn => a,
+        Order::Either => m,
+        Order::Again => m,
     }
-    m
 }
 
-fn leaves(k: u8, w: Fields, m: Said, a: Said, b: Said) -> Said
-    ensures { result ≡ leaves k w m a b }
+fn leaves(order: Order, w: Fields, m: Said, a: Said, b: Said) -> Said
+    ensures { result ≡ leaves order w m a b }
 {
-    if k == 0 {
-        return after_leaf(w, m);
+    match order {
+        Order::Leaf => after_leaf(w, m),
+        Order::InTurn => b,
+        Order::Either => either(a, b),
+        Order::Again => either(m, a),
     }
-    if k == 1 {
-        return b;
-    }
-    if k == 2 {
-        return either(a, b);
-    }
-    either(m, a)
 }
 
 fn gate_line(g: u16) -> u32
@@ -235,9 +243,9 @@ fn walk_row(x: &Automaton, q: u16, r: u16, m: Said, left: u16, page: &mut Page<'
     let p = parts_of(w);
     put_arrow(q, w, m, page);
     let one = walk_row(x, q, p.first, m, left - 1, page);
-    let n = enters(p.kind, m, one);
+    let n = enters(p.order, m, one);
     let two = walk_row(x, q, p.second, n, left - 1, page);
-    leaves(p.kind, w, m, one, two)
+    leaves(p.order, w, m, one, two)
 }
 
 fn put_state_arrows(x: &Automaton, q: u16, page: &mut Page<'_>)
