@@ -23,11 +23,19 @@ mod marks;
 pub mod tables;
 pub mod whole;
 
+// The words before a row.
+#[derive(Clone, Copy)]
+pub enum Lead {
+    Nothing,
+    Comma,
+    Where,
+}
+
 // A row to be written: after which words, how many lines of the notation on, how deep.
 #[derive(Clone, Copy)]
 pub struct Aim {
     pub row: u16,
-    pub lead: u8,
+    pub lead: Lead,
     pub shift: u16,
     pub depth: u16,
 }

@@ -4,7 +4,7 @@ ghost use Rattle.text.specs.Written.{Written};
 ghost use Rattle.notation.specs.Texts.{line_of, blanks, padding, type_name, line_end, margin, pointer, line_start, plain_text, deeper, aim_of, lead_text, constant_line, gate_line, row_line};
 
 use crate::lines::{COMMUNICATE, FALSE, INT, TAU, TRUE, VALUE};
-use crate::{Aim, Style};
+use crate::{Aim, Lead, Style};
 use model::{Fields, Image};
 use text::Page;
 
@@ -229,13 +229,13 @@ fn put_indent(page: &mut Page<'_>, depth: u16)
 }
 
 // The words before a row.
-pub(crate) fn put_lead(page: &mut Page<'_>, lead: u8)
+pub(crate) fn put_lead(page: &mut Page<'_>, lead: Lead)
     ensures { Written (lead_text lead) page.old page.new }
 {
     match lead {
-        0 => {}
-        1 => page.emit(b", "),
-        _ => page.emit(b" where "),
+        Lead::Nothing => {}
+        Lead::Comma => page.emit(b", "),
+        Lead::Where => page.emit(b" where "),
     }
 }
 
@@ -280,7 +280,7 @@ fn deeper(d: u16) -> u16
     d
 }
 
-fn aim_at(row: u16, lead: u8, shift: u16, depth: u16) -> Aim
+fn aim_at(row: u16, lead: Lead, shift: u16, depth: u16) -> Aim
     ensures { result ≡ record { row = row; lead = lead; shift = shift; depth = depth } }
 {
     Aim {
@@ -297,16 +297,16 @@ pub(crate) fn aim(a: Aim, w: Fields, b: u8) -> Aim
 {
     let deep = deeper(a.depth);
     match b {
-        b'A' => aim_at(w.a, 0, 0, a.depth),
-        b'B' => aim_at(w.b, 0, 0, a.depth),
-        b'C' => aim_at(w.c, 0, 0, a.depth),
-        b'D' => aim_at(w.a, 0, 0, deep),
-        b'F' => aim_at(w.b, 0, 0, deep),
-        b'N' => aim_at(w.a, 0, 20, a.depth),
-        b'Q' => aim_at(w.c, 1, a.shift, a.depth),
-        b'R' => aim_at(w.b, 1, a.shift, a.depth),
-        b'W' => aim_at(w.b, 2, 0, a.depth),
-        _ => aim_at(Image::NONE, 0, 0, 0),
+        b'A' => aim_at(w.a, Lead::Nothing, 0, a.depth),
+        b'B' => aim_at(w.b, Lead::Nothing, 0, a.depth),
+        b'C' => aim_at(w.c, Lead::Nothing, 0, a.depth),
+        b'D' => aim_at(w.a, Lead::Nothing, 0, deep),
+        b'F' => aim_at(w.b, Lead::Nothing, 0, deep),
+        b'N' => aim_at(w.a, Lead::Nothing, 20, a.depth),
+        b'Q' => aim_at(w.c, Lead::Comma, a.shift, a.depth),
+        b'R' => aim_at(w.b, Lead::Comma, a.shift, a.depth),
+        b'W' => aim_at(w.b, Lead::Where, 0, a.depth),
+        _ => aim_at(Image::NONE, Lead::Nothing, 0, 0),
     }
 }
 

@@ -11,7 +11,7 @@ use crate::lines::{
     BOOL_TYPE, DAMAGED, INT_TYPE, OTHER_TYPE, PARAMETER, ROW, ROW_TABLE, TYPE_TABLE, VARIABLE,
     VARIABLE_TABLE,
 };
-use crate::{Aim, Filling, Style, put_filled};
+use crate::{Aim, Filling, Lead, Style, put_filled};
 use image::Automaton;
 use model::{Fields, Image};
 use text::Page;
@@ -31,7 +31,7 @@ pub(crate) fn put_words(st: Style, k: u32, w: Fields, r: u16, page: &mut Page<'_
     };
     let a = Aim {
         row: r,
-        lead: 0,
+        lead: Lead::Nothing,
         shift: 0,
         depth: 0,
     };
@@ -45,7 +45,7 @@ pub(crate) fn put_line(x: &Automaton, st: Style, k: u32, w: Fields, r: u16, page
 {
     let a = Aim {
         row: r,
-        lead: 0,
+        lead: Lead::Nothing,
         shift: 0,
         depth: 0,
     };
