@@ -10,7 +10,7 @@ use Rattle.model.specs.Masks.{bit, inside, join}
 use Rattle.model.specs.Image.{Tables, none, trailer_of, tables_of, fields_of, state_count}
 use Rattle.model.specs.Calls.{check}
 use Rattle.text.specs.Emit.{bytes}
-use Rattle.notation.specs.declared.Style.{Style}
+use Rattle.notation.specs.declared.{Style.Style, Table.TheVariants.States}
 use Rattle.notation.specs.Texts.{each}
 use Rattle.notation.specs.Whole.{fields_with, words_text, table_text, refusal_text, pointing, pointless}
 use Rattle.graph.specs.declared.{Said.Said, Order.Order, Order.TheVariants.Leaf, Order.TheVariants.InTurn, Order.TheVariants.Either, Order.TheVariants.Again, Parts.Parts}
@@ -143,7 +143,7 @@ state_arrows x q = arrows limits.rows x q (get_or x.states q none) silent
 unfoldable pub graph_text : Tables → Image → Style → List ℕ
 graph_text x i st =
     words_text st GRAPH (fields_with 0 0 0) 0
-    ++ table_text x i st BOX
+    ++ table_text x i st (States BOX)
     ++ each (state_arrows x) (state_count i)
     ++ words_text st GRAPH-END (fields_with 0 0 0) 0
 

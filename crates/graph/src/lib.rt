@@ -20,7 +20,7 @@ use notation::lines::{
 };
 use notation::tables::put_table;
 use notation::whole::{pointing, put_refusal, put_said};
-use notation::{Style, row_fields};
+use notation::{Style, Table, row_fields};
 use ntif::check;
 use text::Page;
 
@@ -275,7 +275,7 @@ fn put_graph(x: &Automaton, st: Style, page: &mut Page<'_>)
     ensures { Written (graph_text (tables x.now) x.now.trailer st) page.old page.new }
 {
     put_said(st, GRAPH, 0, 0, 0, 0, page);
-    put_table(x, st, BOX, page);
+    put_table(x, st, Table::States(BOX), page);
     put_arrows(x, page);
     put_said(st, GRAPH_END, 0, 0, 0, 0, page);
 }

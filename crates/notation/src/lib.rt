@@ -48,6 +48,15 @@ pub struct Style {
     pub graph: bool,
 }
 
+// A table to be written; the states, each as one line of the notation.
+#[derive(Clone, Copy)]
+pub enum Table {
+    Types,
+    Variables,
+    Rows,
+    States(u32),
+}
+
 // A line of the notation, and the fields that fill it in.
 #[derive(Clone, Copy)]
 pub struct Filling {

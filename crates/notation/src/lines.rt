@@ -81,10 +81,3 @@ pub const REFUSED_BOX: u32 = 113;
 pub const SPOKEN_TAU: u32 = 114;
 
 pub const SPOKEN_GATE: u32 = 115;
-
-// Tables by number: these three; any other number writes the states, each as the line of that number.
-pub const TYPE_TABLE: u32 = 0;
-
-pub const VARIABLE_TABLE: u32 = 1;
-
-pub const ROW_TABLE: u32 = 2;

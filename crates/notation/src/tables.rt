@@ -7,11 +7,8 @@ ghost use Rattle.notation.specs.Texts.{line_text};
 ghost use Rattle.notation.specs.Whole.{words_text, type_line, variable_line, type_filling, variable_filling, state_filling, row_filling, filling_of, count_of, entry_text, table_text};
 ghost use Rattle.notation.specs.Inside.{EntryOf};
 
-use crate::lines::{
-    BOOL_TYPE, DAMAGED, INT_TYPE, OTHER_TYPE, PARAMETER, ROW, ROW_TABLE, TYPE_TABLE, VARIABLE,
-    VARIABLE_TABLE,
-};
-use crate::{Aim, Filling, Lead, Style, put_filled};
+use crate::lines::{BOOL_TYPE, DAMAGED, INT_TYPE, OTHER_TYPE, PARAMETER, ROW, VARIABLE};
+use crate::{Aim, Filling, Lead, Style, Table, put_filled};
 use image::Automaton;
 use model::{Fields, Image};
 use text::Page;
@@ -123,46 +120,46 @@ fn row_filling(x: &Automaton, r: u16) -> Filling
     }
 }
 
-// Entry q of table k.
-fn filling_of(x: &Automaton, k: u32, q: u16) -> Filling
-    requires { EntryOf x.now.image.now x.now.trailer k q }
-    ensures { result ≡ filling_of (tables x.now) k q }
+// Entry q of a table.
+fn filling_of(x: &Automaton, table: Table, q: u16) -> Filling
+    requires { EntryOf x.now.image.now x.now.trailer table q }
+    ensures { result ≡ filling_of (tables x.now) table q }
 {
-    match k {
-        TYPE_TABLE => type_filling(x, q),
-        VARIABLE_TABLE => variable_filling(x, q),
-        ROW_TABLE => row_filling(x, q),
-        _ => state_filling(x, k, q),
+    match table {
+        Table::Types => type_filling(x, q),
+        Table::Variables => variable_filling(x, q),
+        Table::Rows => row_filling(x, q),
+        Table::States(k) => state_filling(x, k, q),
     }
 }
 
-fn count_of(x: &Automaton, k: u32) -> u16
+fn count_of(x: &Automaton, table: Table) -> u16
     requires { Located x.now.image.now x.now.trailer }
-    ensures { result ≡ count_of x.now.trailer k }
+    ensures { result ≡ count_of x.now.trailer table }
 {
-    match k {
-        TYPE_TABLE => (x.trailer.variables - x.trailer.types) / 2,
-        VARIABLE_TABLE => (x.trailer.states - x.trailer.variables) / 4,
-        ROW_TABLE => (x.trailer.length - 16 - x.trailer.rows) / 8,
-        _ => (x.trailer.rows - x.trailer.states) / 2,
+    match table {
+        Table::Types => (x.trailer.variables - x.trailer.types) / 2,
+        Table::Variables => (x.trailer.states - x.trailer.variables) / 4,
+        Table::Rows => (x.trailer.length - 16 - x.trailer.rows) / 8,
+        Table::States(_) => (x.trailer.rows - x.trailer.states) / 2,
     }
 }
 
-fn put_entry(x: &Automaton, st: Style, k: u32, q: u16, page: &mut Page<'_>)
-    requires { EntryOf x.now.image.now x.now.trailer k q }
-    ensures { Written (entry_text (tables x.now) st k q) page.old page.new }
+fn put_entry(x: &Automaton, st: Style, table: Table, q: u16, page: &mut Page<'_>)
+    requires { EntryOf x.now.image.now x.now.trailer table q }
+    ensures { Written (entry_text (tables x.now) st table q) page.old page.new }
 {
-    let f = filling_of(x, k, q);
+    let f = filling_of(x, table, q);
     put_line(x, st, f.line, f.fields, q, page);
 }
 
 // All lines of a table.
-pub fn put_table(x: &Automaton, st: Style, k: u32, page: &mut Page<'_>)
+pub fn put_table(x: &Automaton, st: Style, table: Table, page: &mut Page<'_>)
     requires { Located x.now.image.now x.now.trailer }
-    ensures { Written (table_text (tables x.now) x.now.trailer st k) page.old page.new }
+    ensures { Written (table_text (tables x.now) x.now.trailer st table) page.old page.new }
 {
-    let n = count_of(x, k);
+    let n = count_of(x, table);
     for q in 0..n {
-        put_entry(x, st, k, q, page);
+        put_entry(x, st, table, q, page);
     }
 }

@@ -7,12 +7,12 @@ ghost use Rattle.notation.specs.Texts.{each};
 ghost use Rattle.notation.specs.Whole.{fields_with, words_text, length_text, trailer_text, tables_text, roots_text, raw_text, listing_text, member_text, set_text, accepted_text, refusal_text, row_place, state_place, pointing, shown_text};
 ghost use Rattle.notation.specs.Inside.{Shown};
 
-use crate::Style;
 use crate::lines::{
-    ACCEPTED, CONDITION, CONDITION_ROW, COUNTS, GATES, IMAGE, LENGTH, REFUSED, ROW_TABLE, ROWS,
-    SET, SET_END, STARTS, STATE, STATE_ROW, STATES, TYPE_TABLE, TYPES, VARIABLE_TABLE, VARIABLES,
+    ACCEPTED, CONDITION, CONDITION_ROW, COUNTS, GATES, IMAGE, LENGTH, REFUSED, ROWS, SET, SET_END,
+    STARTS, STATE, STATE_ROW, STATES, TYPES, VARIABLES,
 };
 use crate::tables::{put_line, put_table, put_words};
+use crate::{Style, Table};
 use image::{Automaton, trailer};
 use masks::{bit, inside};
 use model::{Fields, Image, Refusal};
@@ -56,9 +56,9 @@ fn put_tables(x: &Automaton, st: Style, page: &mut Page<'_>)
 {
     put_trailer(x.trailer, st, page);
     put_said(st, TYPES, 0, 0, 0, 0, page);
-    put_table(x, st, TYPE_TABLE, page);
+    put_table(x, st, Table::Types, page);
     put_said(st, VARIABLES, 0, 0, 0, 0, page);
-    put_table(x, st, VARIABLE_TABLE, page);
+    put_table(x, st, Table::Variables, page);
     put_said(st, GATES, x.trailer.gates, 0, 0, 0, page);
 }
 
@@ -67,7 +67,7 @@ fn put_roots(x: &Automaton, st: Style, page: &mut Page<'_>)
     ensures { Written (roots_text (tables x.now) x.now.trailer st) page.old page.new }
 {
     put_said(st, STATES, 0, 0, 0, 0, page);
-    put_table(x, st, STATE_ROW, page);
+    put_table(x, st, Table::States(STATE_ROW), page);
     let states = (x.trailer.rows - x.trailer.states) / 2;
     put_said(st, CONDITION_ROW, x.trailer.condition, 0, 0, states, page);
 }
@@ -79,7 +79,7 @@ fn put_raw(x: &Automaton, st: Style, page: &mut Page<'_>)
     put_tables(x, st, page);
     put_roots(x, st, page);
     put_said(st, ROWS, 0, 0, 0, 0, page);
-    put_table(x, st, ROW_TABLE, page);
+    put_table(x, st, Table::Rows, page);
 }
 
 pub(crate) fn put_listing(x: &Automaton, st: Style, page: &mut Page<'_>)
@@ -94,7 +94,7 @@ pub(crate) fn put_listing(x: &Automaton, st: Style, page: &mut Page<'_>)
         c: 0,
     };
     put_line(x, st, CONDITION, w, 0, page);
-    put_table(x, st, STATE, page);
+    put_table(x, st, Table::States(STATE), page);
 }
 
 fn put_member(mask: u64, v: u16, page: &mut Page<'_>)

@@ -11,7 +11,7 @@ pub put_entry-requires : goal.put_entry-requires
 put_entry-requires c = record { located = c.requires; inside = search rules }
 
 pub loop-q-preserved : goal.loop-q-preserved
-loop-q-preserved c = each_next (entry_text (tables_of c.args.x.now.image.now) c.args.st c.args.k) c.loop-q.q c.loop-q.invariant c.put_entry.ensures
+loop-q-preserved c = each_next (entry_text (tables_of c.args.x.now.image.now) c.args.st c.args.table) c.loop-q.q c.loop-q.invariant c.put_entry.ensures
 
 pub returns : goal.returns
 unfolding table_text
