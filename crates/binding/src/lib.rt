@@ -83,15 +83,11 @@ fn rows_verdict(x: &Automaton, masks: &[Masks]) -> Result<(), Refusal>
     ensures { result ≡ binding_verdict (tables x.now) }
 {
     let allowed = parameters(x);
-    let n = masks.len() as u16;
-    let mut r: u16 = 0;
-    while r < n {
-        if !bound(x, r, masks, allowed) {
-            return Err(Refusal::Binding(Row(r)));
-        }
-        r += 1;
+    let n = x.row_count();
+    match (0..n).find(|r| !bound(x, *r, masks, allowed)) {
+        Some(r) => Err(Refusal::Binding(Row(r))),
+        None => Ok(()),
     }
-    Ok(())
 }
 
 // 9: binding. What is lent on ends where the rows end, so that none is past it.

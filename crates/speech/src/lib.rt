@@ -7,10 +7,12 @@ mod ways;
 
 ghost use Rattle.image.specs.Located.{tables};
 ghost use Rattle.std.specs.Prelude.{◌≡◌, ◌<◌, length, get_or};
-ghost use Rattle.model.specs.Image.{row_count};
+ghost use Rattle.model.specs.Image.{state_count, row_count};
+ghost use Rattle.model.specs.Decode.{act};
+ghost use Rattle.model.specs.Speech.{well_spoken};
 ghost use Rattle.speech.specs.Both.{both_of, unpacked};
 ghost use Rattle.speech.specs.Filled.{ways_at, Filled, Lent, Ready};
-ghost use Rattle.speech.specs.Verdict.{speech_verdict, Judged, ends_right};
+ghost use Rattle.speech.specs.Verdict.{speech_verdict, Judged};
 
 use arms::{always, exhaustive};
 use image::Automaton;
@@ -54,11 +56,11 @@ fn fill(x: &Automaton, ways: &mut [u8])
 }
 
 // A state's action is entered quiet, and may not end spoken.
-fn ends_right(ways: &[u8], r: u16) -> bool
-    requires { r < length ways.now }
-    ensures { result ≡ ends_right (unpacked (get_or ways.now r 0)) }
+fn well_spoken(x: &Automaton, ways: &[u8], s: u16) -> bool
+    requires { Judged x.now.image.now x.now.trailer ways.now × (s < state_count x.now.trailer) }
+    ensures { result ≡ well_spoken (tables x.now) (act (tables x.now) s) }
 {
-    let w = Modes::at(ways, r);
+    let w = Modes::at(ways, x.state_row(s));
     let quiet = w.quiet;
     quiet.right & !quiet.spoken
 }
@@ -69,15 +71,10 @@ fn judged(x: &Automaton, ways: &[u8]) -> Result<(), Refusal>
     ensures { result ≡ speech_verdict (tables x.now) }
 {
     let n = x.state_count();
-    let mut s: u16 = 0;
-    while s < n {
-        let r = x.state_row(s);
-        if !ends_right(ways, r) {
-            return Err(Refusal::Speech(State(s)));
-        }
-        s += 1;
+    match (0..n).find(|s| !well_spoken(x, ways, *s)) {
+        Some(s) => Err(Refusal::Speech(State(s))),
+        None => Ok(()),
     }
-    Ok(())
 }
 
 // 12: a state's action does something wrong once it has spoken, or can end spoken. `ways` is lent, a byte for each row.
