@@ -17,19 +17,14 @@ fn check_on(image: &[u8], sets: &mut [u64], masks: &mut [u64]) -> Result<(), Ref
     requires { 64 ≤ length masks.old }
     ensures { record { answer = result; sets = sets.new } ≡ check image.now sets.old }
 {
-    let v = judge(image, sets.len(), masks);
-    match v {
-        Err(_) => v,
-        Ok(()) => {
-            let x = Automaton {
-                image,
-                trailer: trailer(image),
-            };
-            let n = x.state_count() as usize;
-            sets[..n].copy_from_slice(&masks[..n]);
-            v
-        }
-    }
+    judge(image, sets.len(), masks)?;
+    let x = Automaton {
+        image,
+        trailer: trailer(image),
+    };
+    let n = x.state_count() as usize;
+    sets[..n].copy_from_slice(&masks[..n]);
+    Ok(())
 }
 
 // The verdict on an image, and where it is accepted its sets.

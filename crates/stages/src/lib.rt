@@ -25,17 +25,12 @@ const ROWS: usize = Image::ROWS as usize;
 fn tables(image: &[u8]) -> Result<(), Refusal>
     ensures { result ≡ tables_verdict image.now }
 {
-    let v = header(image);
-    match v {
-        Err(_) => v,
-        Ok(()) => {
-            let x = Automaton {
-                image,
-                trailer: trailer(image),
-            };
-            rows_verdict(&x)
-        }
-    }
+    header(image)?;
+    let x = Automaton {
+        image,
+        trailer: trailer(image),
+    };
+    rows_verdict(&x)
 }
 
 // 8 and 9, with the masks of rows that the later stages read.
@@ -44,11 +39,8 @@ fn rules(x: &Automaton, masks: &mut [Masks]) -> Result<(), Refusal>
     ensures { Ruled (tables x.now) (row_count x.now.trailer) result masks.new }
 {
     fill(x, masks);
-    let v = typing_verdict(x);
-    match v {
-        Err(_) => v,
-        Ok(()) => binding_verdict(x, masks),
-    }
+    typing_verdict(x)?;
+    binding_verdict(x, masks)
 }
 
 // 10 and 11: room for the sets, then the sets and what is read before it is set.
@@ -73,11 +65,8 @@ fn flow(
     requires { Flowing x.now.image.now x.now.trailer masks.now sets.old ways.old }
     ensures { Flowed (tables x.now) room result sets.old sets.new }
 {
-    let v = found(x, room, masks, sets);
-    match v {
-        Err(_) => v,
-        Ok(()) => speech_verdict(x, ways),
-    }
+    found(x, room, masks, sets)?;
+    speech_verdict(x, ways)
 }
 
 // 8 to 12, of an image free of 1 to 7.
@@ -91,11 +80,8 @@ fn trees(
     requires { Treeing x.now.image.now x.now.trailer masks.old sets.old ways.old }
     ensures { Judged (tables x.now) room result sets.old sets.new }
 {
-    let v = rules(x, masks);
-    match v {
-        Err(_) => v,
-        Ok(()) => flow(x, room, masks, sets, ways),
-    }
+    rules(x, masks)?;
+    flow(x, room, masks, sets, ways)
 }
 
 // The same on scratch for N rows.
@@ -129,17 +115,12 @@ pub fn judge(image: &[u8], room: usize, sets: &mut [u64]) -> Result<(), Refusal>
     requires { 64 ≤ length sets.old }
     ensures { Checks image.now room result sets.old sets.new }
 {
-    let v = tables(image);
-    match v {
-        Err(_) => v,
-        Ok(()) => {
-            let x = Automaton {
-                image,
-                trailer: trailer(image),
-            };
-            sized(&x, room, sets)
-        }
-    }
+    tables(image)?;
+    let x = Automaton {
+        image,
+        trailer: trailer(image),
+    };
+    sized(&x, room, sets)
 }
 
 // 8 and 9 on scratch for N rows.
@@ -171,15 +152,10 @@ fn rules_sized(x: &Automaton) -> Result<(), Refusal>
 pub fn image_verdict(image: &[u8]) -> Result<(), Refusal>
     ensures { result ≡ image_verdict image.now }
 {
-    let v = tables(image);
-    match v {
-        Err(_) => v,
-        Ok(()) => {
-            let x = Automaton {
-                image,
-                trailer: trailer(image),
-            };
-            rules_sized(&x)
-        }
-    }
+    tables(image)?;
+    let x = Automaton {
+        image,
+        trailer: trailer(image),
+    };
+    rules_sized(&x)
 }

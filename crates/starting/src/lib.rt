@@ -104,14 +104,9 @@ fn begin_on(
     ensures { record { answer = result; store = store.new } ≡ begun (tables x.now) params.now store.old }
 {
     fill(x, params, work);
-    let v = values_verdict(x, work);
-    match v {
-        Err(_) => v,
-        Ok(()) => {
-            store.copy_from_slice(work);
-            v
-        }
-    }
+    values_verdict(x, work)?;
+    store.copy_from_slice(work);
+    Ok(())
 }
 
 // The working copy has a function of its own, so that no other one's facts carry its 64 slots.

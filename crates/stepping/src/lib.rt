@@ -59,19 +59,14 @@ fn run_verdict(
     if store.len() != x.variable_count() as usize {
         return Err(Refusal::StoreLength);
     }
-    let v = slots_verdict(x, store);
-    match v {
-        Err(_) => v,
-        Ok(()) => {
-            if label.len() < Image::LABEL as usize {
-                return Err(Refusal::LabelShort);
-            }
-            if Image::BUDGET < budget {
-                return Err(Refusal::BudgetOver);
-            }
-            Ok(())
-        }
+    slots_verdict(x, store)?;
+    if label.len() < Image::LABEL as usize {
+        return Err(Refusal::LabelShort);
     }
+    if Image::BUDGET < budget {
+        return Err(Refusal::BudgetOver);
+    }
+    Ok(())
 }
 
 // The run of the state's action, from nothing read, nothing used and nothing said.
@@ -178,19 +173,11 @@ pub fn take_step(
 ) -> Result<Move, Refusal>
     ensures { record { answer = result; store = store.new; label = label.new } ≡ step image.now q store.old script.now budget label.old }
 {
-    let v = image_verdict(image);
-    match v {
-        Err(y) => Err(y),
-        Ok(()) => {
-            let x = Automaton {
-                image,
-                trailer: trailer(image),
-            };
-            let u = run_verdict(&x, q, store, budget, label);
-            match u {
-                Err(y) => Err(y),
-                Ok(()) => run_step(&x, q, store, script, budget, label),
-            }
-        }
-    }
+    image_verdict(image)?;
+    let x = Automaton {
+        image,
+        trailer: trailer(image),
+    };
+    run_verdict(&x, q, store, budget, label)?;
+    run_step(&x, q, store, script, budget, label)
 }

@@ -33,4 +33,4 @@ returns-in-Err c =
 pub returns-in-Ok : goal.returns-in-Ok
 returns-in-Ok c =
     bytes-accepted _ c.args.sets.now (λ j. omega (arith, c.slice_known-1.given j)) _ c.judge-v.ensures c.in-Ok.is c.state_count-n.ensures
-    (c.put_words.ensures ∙ ap (λ l. written 8 l c.args.sets.now) (map-id (take c.state_count-n.result c.judge-v.new.masks))) c.pack_verdict-in-Ok.ensures
+    (c.put_words.ensures ∙ ap (λ l. written 8 l c.args.sets.now) (map-id (take c.state_count-n.result c.judge-v.new.sets))) c.pack_verdict-in-Ok.ensures
