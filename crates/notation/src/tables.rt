@@ -17,14 +17,17 @@ use text::Page;
 pub(crate) fn put_words(st: Style, k: u32, w: Fields, r: u16, page: &mut Page<'_>)
     ensures { Written (words_text st k w r) page.old page.new }
 {
-    let i = Image {
-        types: 0,
-        variables: 0,
-        states: 0,
-        rows: 0,
-        gates: 0,
-        condition: 0,
-        length: 0,
+    let x = Automaton {
+        image: b"",
+        trailer: Image {
+            types: 0,
+            variables: 0,
+            states: 0,
+            rows: 0,
+            gates: 0,
+            condition: 0,
+            length: 0,
+        },
     };
     let a = Aim {
         row: r,
@@ -32,7 +35,7 @@ pub(crate) fn put_words(st: Style, k: u32, w: Fields, r: u16, page: &mut Page<'_
         shift: 0,
         depth: 0,
     };
-    put_filled(b"", i, st, a, w, k, 0, page);
+    put_filled(&x, st, a, w, k, 0, page);
 }
 
 // A line, with the rows that it names.
