@@ -3,12 +3,13 @@
 
 ghost use Rattle.std.specs.Prelude.{◌≡◌};
 ghost use Rattle.model.specs.Rows.{expression, pattern, gets, of_type, range, arm};
+ghost use Rattle.model.specs.Decode.{list_at};
 ghost use Rattle.model.specs.Typing.{typed};
 ghost use Rattle.image.specs.Located.{tables, Rooted};
-ghost use Rattle.typing.specs.Rules.{typing_verdict, row_typed, expression_type, condition_type, pattern_type, gets_typed, of_types_typed, arms_typed, range_typed, operand_of, result_of, takes_types, Operator, FormedRow, OfKind, OrNone, RootedRow};
+ghost use Rattle.typing.specs.Rules.{typing_verdict, row_typed, expression_type, condition_type, pattern_type, gets_typed, of_types_typed, arms_typed, range_typed, TestedList, AllPass, operand_of, result_of, takes_types, Operator, FormedRow, OfKind, OrNone, RootedRow};
 
 use image::Automaton;
-use model::{Image, Refusal, Row};
+use model::{Fields, Image, Refusal, Row};
 
 const TAU: u16 = 0;
 
@@ -89,20 +90,28 @@ pub fn type_of_pattern(x: &Automaton, r: u16) -> u16
     }
 }
 
-// Each item's expression is of its variable's type.
-fn gets_typed(x: &Automaton, r: u16) -> bool
-    requires { OrNone x.now.image.now x.now.trailer gets r }
-    ensures { result ≡ gets_typed (tables x.now) r }
+// The test passes at every row of the list that starts at row first; the next row is in field c.
+fn all_pass<F: Fn(Fields) -> bool>(x: &Automaton, first: u16, test: F) -> bool
+    requires { TestedList x.now.image.now x.now.trailer (F.pre test) first }
+    ensures { AllPass (F.post test) (tables x.now) (list_at (tables x.now) first) result }
 {
-    let mut at = r;
+    let mut at = first;
     while at != Image::NONE {
         let w = x.fields(at);
-        if type_of_expression(x, w.b) != x.variable_type(w.a) {
+        if !test(w) {
             return false;
         }
         at = w.c;
     }
     true
+}
+
+// Each item's expression is of its variable's type.
+fn gets_typed(x: &Automaton, r: u16) -> bool
+    requires { OrNone x.now.image.now x.now.trailer gets r }
+    ensures { result ≡ gets_typed (tables x.now) r }
+{
+    all_pass(x, r, |w| type_of_expression(x, w.b) == x.variable_type(w.a))
 }
 
 // Each item's type is its variable's.
@@ -110,15 +119,7 @@ fn of_types_typed(x: &Automaton, r: u16) -> bool
     requires { OrNone x.now.image.now x.now.trailer of_type r }
     ensures { result ≡ of_types_typed (tables x.now) r }
 {
-    let mut at = r;
-    while at != Image::NONE {
-        let w = x.fields(at);
-        if x.variable_type(w.a) != w.b {
-            return false;
-        }
-        at = w.c;
-    }
-    true
+    all_pass(x, r, |w| x.variable_type(w.a) == w.b)
 }
 
 // Each arm's pattern is of the type t.
@@ -126,15 +127,7 @@ fn arms_typed(x: &Automaton, t: u16, r: u16) -> bool
     requires { OrNone x.now.image.now x.now.trailer arm r }
     ensures { result ≡ arms_typed (tables x.now) t r }
 {
-    let mut at = r;
-    while at != Image::NONE {
-        let w = x.fields(at);
-        if type_of_pattern(x, w.a) != t {
-            return false;
-        }
-        at = w.c;
-    }
-    true
+    all_pass(x, r, |w| type_of_pattern(x, w.a) == t)
 }
 
 // "A range's variable is int."
