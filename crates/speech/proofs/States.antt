@@ -1,22 +1,19 @@
 -- The states, lowest first. Assumes nothing.
-use Rattle.std.specs.Prelude.{Ok, Err}
-use mathlib.Core.{Path.◌≡◌, Path.sym, Path.ap, Path.◌∙◌, Bool.Bool, Bool.true, Bool.false, List.List}
-use Prim.Native.Nat.{ℕ, ◌+◌, ◌≤◌, ◌<◌}
+use mathlib.Core.{Path.◌≡◌, Path.ap, Path.◌∙◌, Bool.Bool, Bool.true, List.List}
+use Prim.Native.Nat.{ℕ, ◌<◌}
 use native.Mathlib.Omega.{arith}
 use lib.{Dec.ltb, ListN.length, ListN.get_or}
 use borrow.Author.Tests.{ltb-true}
-use Rattle.model.specs.declared.{Image.Image, Refusal.TheVariants.Speech}
-use Rattle.model.specs.Answers.{state, lowest}
+use Rattle.model.specs.declared.{Image.Image}
 use Rattle.model.specs.Image.{Tables, none, tables_of, state_count}
 use Rattle.model.specs.Rows.{action, is_kind, is_root}
 use Rattle.model.specs.Decode.{act}
 use Rattle.model.specs.Speech.{well_spoken}
 use Rattle.model.proofs.Rows.{both_true}
-use Rattle.model.proofs.Order.{lowest-full, lowest-pass, each-full, each-refuses}
 use Rattle.image.specs.Located.{StateOf}
-use Rattle.image.proofs.Laid.{laid, rows-count, states-count}
+use Rattle.image.proofs.Laid.{rows-count, states-count}
 use Rattle.speech.specs.Both.{unpacked}
-use Rattle.speech.specs.Verdict.{speech_verdict, Judged, ends_right}
+use Rattle.speech.specs.Verdict.{Judged, ends_right}
 use Rattle.speech.proofs.Steps.{action-ways}
 
 module _ {s : List ℕ} {i : Image} {ways : List ℕ} (h : Judged s i ways) where

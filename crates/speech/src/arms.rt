@@ -5,11 +5,12 @@ ghost use Rattle.model.specs.Rows.{expression, pattern, arm};
 ghost use Rattle.model.specs.Decode.{condition_at, pattern_at};
 ghost use Rattle.model.specs.Speech.{is_always};
 ghost use Rattle.speech.specs.Filled.{arms_at};
-ghost use Rattle.speech.specs.Case.{OfKind, OrNone, CaseOf, TypeIs, CaughtAs, CaughtBy, ValueBit, all_in, exhaustive_at};
+ghost use Rattle.speech.specs.Case.{OfKind, OrNone, CaseOf, CaughtAs, CaughtBy, ValueBit, all_in, exhaustive_at};
 
 use image::Automaton;
 use masks::{bit, full, inside};
 use model::Image;
+use typing::type_of_expression;
 
 // The condition of an any, or none: whether it is the constant true.
 pub fn always(x: &Automaton, r: u16) -> bool
@@ -21,21 +22,6 @@ pub fn always(x: &Automaton, r: u16) -> bool
     }
     let w = x.fields(r);
     (w.code == 2) & (w.a == 0) & (w.b == 1)
-}
-
-// The type of a row's expression.
-fn type_of(x: &Automaton, r: u16) -> u16
-    requires { OfKind x.now.image.now x.now.trailer expression r }
-    ensures { TypeIs x.now.image.now x.now.trailer r result }
-{
-    let w = x.fields(r);
-    let code = w.code;
-    match code {
-        1 => x.variable_type(w.a),
-        2 => w.a,
-        19..=24 => Image::INT,
-        _ => Image::BOOL,
-    }
 }
 
 // What the arms of a case catch: every value; those of the values 0 to 63, as a mask.
@@ -103,7 +89,7 @@ pub fn exhaustive(x: &Automaton, subject: u16, first: u16) -> bool
     if c.all {
         return true;
     }
-    let t = type_of(x, subject);
+    let t = type_of_expression(x, subject);
     if t == Image::INT {
         return false;
     }

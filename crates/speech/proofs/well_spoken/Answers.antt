@@ -1,5 +1,5 @@
 -- `well_spoken` meets its contract. Assumes nothing.
-use mathlib.Core.{Path.ap, Path.◌∙◌}
+use mathlib.Core.{Path.ap}
 use Rattle.speech.specs.Verdict.{ends_right}
 use Rattle.speech.proofs.States.{state-of, in-ways, speaks-well}
 use Rattle.speech.proofs.well_spoken.Goals as goal
