@@ -11,18 +11,12 @@ use Rattle.model.specs.Decode.{expression_at, list_at}
 use Rattle.model.specs.Masks.{has, full, inside}
 use Rattle.model.specs.Typing.{type_of_exp}
 use Rattle.model.specs.Speech.{catches_all, catches, some_catches_all, some_catches, exhaustive}
-use Rattle.image.specs.Located.{Formed}
-pub use Rattle.typing.specs.Rules.{OfKind}
+pub use Rattle.typing.specs.Rules.{OfKind, OrNone}
 use Rattle.speech.specs.Filled.{arms_at}
 
 -- a row of a kind, or none
 abbrev pub RowOrNone : Tables → Kind → ℕ → Type 0
 RowOrNone x k r = (r ≡ none) ⊎ (is_kind x k r ≡ true)
-
--- of an image free of 1 to 5: such a row or none
-pub record OrNone (s : List ℕ) (i : Image) (k : Kind) (r : ℕ) : Type 0 where
-  pub formed : Formed s i
-  pub row : RowOrNone (tables_of s) k r
 
 -- a case's subject and its first arm
 pub record CaseOf (s : List ℕ) (i : Image) (e first : ℕ) : Type 0 where
