@@ -1,9 +1,9 @@
 -- The ways of the loops' helpers: a unit for a further test, V := V + 1, V <= high. Assumes nothing.
 use Rattle.std.specs.Prelude.{Option, Some, None}
 use mathlib.Core.{Path.◌≡◌, Path.sym, Path.ap, Path.◌∙◌, Path.subst, Bool.Bool, Bool.true, Bool.false, Bool.cond, List.List}
-use Prim.Native.Nat.{ℕ, ◌+◌, ◌-◌, ◌^◌, ◌≤◌, ◌<◌}
+use Prim.Native.Nat.{ℕ, ◌-◌, ◌^◌, ◌≤◌, ◌<◌}
 use native.Mathlib.Omega.{arith}
-use lib.{IntN.ℤ, IntN.pos, ListN.length, ListN.length-set, ListN.get_or, ListN.set, Signed.mag, Signed.le_z}
+use lib.{IntN.ℤ, IntN.pos, ListN.get_or, ListN.set, Signed.mag, Signed.le_z}
 use Rattle.model.specs.declared.{Fields.Fields, Refusal.Refusal, Refusal.TheVariants.Blocked, Refusal.TheVariants.BlockedSpoken, Refusal.TheVariants.Undefined, Refusal.TheVariants.BudgetSpent, Tested.TheVariants.Holds, Tested.TheVariants.Fails, Tested.TheVariants.Unsure, Outcome.Outcome, Outcome.TheVariants.Ends, Outcome.TheVariants.Stops}
 use Rattle.model.specs.Answers.{row, variable, number}
 use Rattle.model.specs.Values.{half16, mark, is_zero, of_bool, plus}
@@ -19,10 +19,9 @@ use Rattle.expressions.specs.Operators.{value_of}
 use Rattle.actions.specs.declared.{Run.Run, Ran.Ran}
 use Rattle.actions.specs.State.{state_of, result_of}
 use Rattle.expressions.specs.Ready.{Runs}
-use Rattle.told.specs.Told.{run_of, ran_of}
+use Rattle.told.specs.Told.{ran_of}
 use Rattle.told.proofs.Coded.{out-ends}
 use Rattle.simple.proofs.Acts.{null-way, result_as}
-use Rattle.told.proofs.Kept.{set-left, set_words}
 use Rattle.machine.specs.Running.{Turned, SlotOf, Onward, AtMost}
 use Rattle.machine.proofs.Ways.{ran, answered, answered-same, then-over}
 
@@ -129,32 +128,21 @@ pub held-most : (z high : ℤ) {b : Bool} → mag z < 2 ^ 31 → mag high < 2 ^ 
 held-most z high k l e = sym (λ j. le_z (held-is z k j) (held-is high l j)) ∙ e
 
 -- ---- null
-pub null-told : {s : List ℕ} {rows r : ℕ} {m : List ℤ} → Runs action s rows r m → {w : Fields} → w ≡ fields_of (tables_of s) r → (l : List ℕ) (values : List ℤ) (script : List ℕ)
-    → w.code ≡ 48 → result_of (ran_of 0 l) m values ≡ exec_act (tables_of s) (act_of (action_at (tables_of s) r)) script r (state_of (run_of l) m values)
-null-told {m = m} h e l values script c =
-    result_as 0 l m values out-ends
-    (null-way h e (run_of l) values script (omega arith) (λ k. omega arith) (λ k. omega arith) (λ k. omega arith) (λ k. omega arith) (λ k. omega arith))
+pub null-told : {s : List ℕ} {rows r : ℕ} {m : List ℤ} → Runs action s rows r m → {w : Fields} → w ≡ fields_of (tables_of s) r → (run : Run) (values : List ℤ) (script : List ℕ)
+    → w.code ≡ 48 → result_of (ran_of 0 run) m values ≡ exec_act (tables_of s) (act_of (action_at (tables_of s) r)) script r (state_of run m values)
+null-told {m = m} h e run values script c =
+    result_as 0 run m values out-ends
+    (null-way h e run values script (omega arith) (λ k. omega arith) (λ k. omega arith) (λ k. omega arith) (λ k. omega arith) (λ k. omega arith))
 
--- ---- the state in its slots
-pub set-length : (l l' : List ℕ) (i n : ℕ) → l' ≡ set l i n → length l' ≡ length l
-set-length l l' i n e = ap length e ∙ length-set l i n
-
+-- ---- an outcome told
 pub told-as : {o p : Outcome} (run : Run) → o ≡ p → ran o run ≡ ran p run
 told-as run e = ap (λ (u : Outcome). ran u run) e
 
-pub paid : (l l' : List ℕ) → 5 ≤ length l → l' ≡ set l 1 ((run_of l).left - 1)
-    → run_of l' ≡ record { words = (run_of l).words; left = (run_of l).left - 1; spoken = (run_of l).spoken; gate = (run_of l).gate; count = (run_of l).count }
-paid l l' h e = ap run_of e ∙ set-left l ((run_of l).left - 1) h
+-- the same state, its parts the same
+pub run-same : {o p : Outcome} {run now : Run} {m n values vs : List ℤ} → ran o now ≡ ran p now → n ≡ m → vs ≡ values → now ≡ run
+    → result_of (ran o now) n vs ≡ gives p (state_of run m values)
+run-same {p = p} {m = m} {values = values} e f g h = answered-same p _ e f g ∙ ap (λ (u : Run). gives p (state_of u m values)) h
 
-pub heard : (l l' : List ℕ) → 5 ≤ length l → l' ≡ set l 0 ((run_of l).words + 1)
-    → run_of l' ≡ record { words = (run_of l).words + 1; left = (run_of l).left; spoken = (run_of l).spoken; gate = (run_of l).gate; count = (run_of l).count }
-heard l l' h e = ap run_of e ∙ set_words l ((run_of l).words + 1) h
-
--- the same lists
-pub run-same : {o p : Outcome} {l l' : List ℕ} {m n values vs : List ℤ} → ran o (run_of l') ≡ ran p (run_of l') → n ≡ m → vs ≡ values → l' ≡ l
-    → result_of (ran o (run_of l')) n vs ≡ gives p (state_of (run_of l) m values)
-run-same {p = p} {m = m} {values = values} e f g h = answered-same p _ e f g ∙ ap (λ (k : List ℕ). gives p (state_of (run_of k) m values)) h
-
-pub from-same : (x : Tables) (a : Action) (script : List ℕ) {l l' : List ℕ} {m n values vs : List ℤ} → n ≡ m → vs ≡ values → l' ≡ l
-    → exec x a script (state_of (run_of l') n vs) ≡ exec x a script (state_of (run_of l) m values)
-from-same x a script f g h = λ j. exec x a script (state_of (run_of (h j)) (f j) (g j))
+pub from-same : (x : Tables) (a : Action) (script : List ℕ) {run now : Run} {m n values vs : List ℤ} → n ≡ m → vs ≡ values → now ≡ run
+    → exec x a script (state_of now n vs) ≡ exec x a script (state_of run m values)
+from-same x a script f g h = λ j. exec x a script (state_of (h j) (f j) (g j))

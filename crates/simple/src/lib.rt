@@ -8,7 +8,7 @@ ghost use Rattle.model.specs.Rows.{gets};
 ghost use Rattle.model.specs.Decode.{action_at, act_of, gets_at};
 ghost use Rattle.model.specs.Run.{assigning, exec_act};
 ghost use Rattle.actions.specs.State.{state_of, result_of};
-ghost use Rattle.told.specs.Told.{run_of, Leaves};
+ghost use Rattle.told.specs.Told.{Leaves};
 ghost use Rattle.simple.specs.Simple.{Simple, Worded, Assigning, Assigned};
 
 use actions::{Ran, Run, assign, choose, reset};
@@ -16,7 +16,7 @@ use expressions::row;
 use image::{Automaton, trailer};
 use model::{Outcome, Refusal, Row, State};
 use offers::communicate;
-use told::{ENDS, Slots, Values, put, stopped, taken, told};
+use told::{ENDS, Values, stopped, told};
 
 // 49, R11: nothing but the store changes.
 fn run_assign(image: &[u8], rows: u16, r: u16, first: u16, store: &mut [i32]) -> u32
@@ -48,25 +48,25 @@ fn read_on(
     communicate(x, r, w, store, script, values, run)
 }
 
-// The same, with the run's state taken out of its slots and put back.
+// The same, with the run's state taken and put back.
 fn run_worded(
     image: &[u8],
     r: u16,
     store: &mut [i32],
     script: &&[u8],
     values: &mut Values,
-    run: &mut Slots,
+    run: &mut Run,
 ) -> u32
-    requires { Worded image.now (trailer_of image.now) r store.old values.old × (5 ≤ length run.old) }
-    ensures { Leaves result run.old run.new store.old store.new values.old values.new (exec_act (tables_of image.now) (act_of (action_at (tables_of image.now) r)) script.now.now r (state_of (run_of run.old) store.old values.old)) }
+    requires { Worded image.now (trailer_of image.now) r store.old values.old }
+    ensures { Leaves result run.new store.old store.new values.old values.new (exec_act (tables_of image.now) (act_of (action_at (tables_of image.now) r)) script.now.now r (state_of run.old store.old values.old)) }
 {
     let x = Automaton {
         image,
         trailer: trailer(image),
     };
-    let now = taken(run);
+    let now = *run;
     let q = read_on(&x, r, store, *script, values, now);
-    put(q.run, run);
+    *run = q.run;
     let out = q.out;
     told(out)
 }
@@ -79,10 +79,10 @@ pub fn run_simple(
     store: &mut [i32],
     script: &&[u8],
     values: &mut Values,
-    run: &mut Slots,
+    run: &mut Run,
 ) -> u32
-    requires { Simple image.now rows r store.old values.old × (5 ≤ length run.old) }
-    ensures { Leaves result run.old run.new store.old store.new values.old values.new (exec_act (tables_of image.now) (act_of (action_at (tables_of image.now) r)) script.now.now r (state_of (run_of run.old) store.old values.old)) }
+    requires { Simple image.now rows r store.old values.old }
+    ensures { Leaves result run.new store.old store.new values.old values.new (exec_act (tables_of image.now) (act_of (action_at (tables_of image.now) r)) script.now.now r (state_of run.old store.old values.old)) }
 {
     let w = row(image, rows, r);
     let code = w.code;

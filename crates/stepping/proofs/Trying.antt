@@ -44,11 +44,9 @@ module _ {s : List ℕ} {i : Image} {q : ℕ} {m values : List ℤ} {budget : �
   unfolding attempt
   tries script e f = f ∙ ap (λ (k : ℕ). exec (tables_of s) (action_at (tables_of s) k) script (state_of (record { words = 0; left = budget; spoken = false; gate = 0; count = 0 }) m values)) e
 
-  -- the outcome and the state that the run handed on
-  pub tried : {r : ℕ} {o p : Outcome} {run now from : Run} (script : List ℕ) (n vs : List ℤ) → r ≡ get_or (tables_of s).states q none → o ≡ p → run ≡ now
-      → from ≡ record { words = 0; left = budget; spoken = false; gate = 0; count = 0 }
-      → result_of (record { out = p; run = now }) n vs ≡ exec (tables_of s) (action_at (tables_of s) r) script (state_of from m values)
+  -- the outcome that the run told
+  pub tried : {r : ℕ} {o p : Outcome} (run : Run) (script : List ℕ) (n vs : List ℤ) → r ≡ get_or (tables_of s).states q none → o ≡ p
+      → result_of (record { out = p; run = run }) n vs ≡ exec (tables_of s) (action_at (tables_of s) r) script (state_of (record { words = 0; left = budget; spoken = false; gate = 0; count = 0 }) m values)
       → result_of (record { out = o; run = run }) n vs ≡ attempt (tables_of s) q m script budget
-  tried {r = r} script n vs e f g k l =
-      (λ j. result_of (record { out = f j; run = g j }) n vs)
-      ∙ tries script e (l ∙ ap (λ (u : Run). exec (tables_of s) (action_at (tables_of s) r) script (state_of u m values)) k)
+  tried run script n vs e f l =
+      ap (λ (u : Outcome). result_of (record { out = u; run = run }) n vs) f ∙ tries script e l

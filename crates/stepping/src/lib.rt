@@ -15,7 +15,7 @@ use image::{Automaton, trailer};
 use machine::run_action;
 use model::{Image, Move, Refusal, State, Variable};
 use stages::image_verdict;
-use told::{SLOTS, Values, outcome, put, taken};
+use told::{Values, outcome};
 use values::of_size;
 
 // Whether a slot is undefined or of its variable's type.
@@ -81,22 +81,18 @@ fn try_step(
     requires { Trying x.now.image.now x.now.trailer q work.old.now values.old budget }
     ensures { Tried result work.old.now work.new.now values.old values.new (attempt (tables x.now) q work.old.now script.now budget) }
 {
-    let mut run = [0usize; SLOTS];
-    put(
-        Run {
-            words: 0,
-            left: budget as usize,
-            spoken: false,
-            gate: 0,
-            count: 0,
-        },
-        &mut run,
-    );
+    let mut run = Run {
+        words: 0,
+        left: budget as usize,
+        spoken: false,
+        gate: 0,
+        count: 0,
+    };
     let r = x.state_row(q);
     let n = run_action(&x.image, x.trailer.rows, r, work, &script, values, &mut run);
     Ran {
         out: outcome(n),
-        run: taken(&run),
+        run: run,
     }
 }
 
