@@ -22,7 +22,8 @@ pub struct Gate(pub u16);
 #[derive(Clone, Copy)]
 pub struct Row(pub u16);
 
-// The four fields of a row.
+// The four fields of a row. The code stays a number: document 01's table and the definitions (shape_of) go by it, and an
+// enum, a second list of its names, would be no plainer.
 #[derive(Clone, Copy)]
 pub struct Fields {
     pub code: u16,
@@ -108,7 +109,7 @@ impl Image {
 
     pub const BUDGET: u32 = 1000000;
 
-    // No row, in a field that may name one.
+    // No row, in a field that may name one: a number and no Option, since it is the image's form.
     pub const NONE: u16 = 0xFFFF;
 
     // Types 0 and 1.
@@ -119,7 +120,7 @@ impl Image {
     // Half the number of int's values.
     pub const HALF: u16 = 32768;
 
-    // What a store holds for an undefined variable: no int.
+    // What a store holds for an undefined variable: no int. A number and no Option, since C lends stores as words.
     pub const UNDEFINED: i32 = 65536;
 
     // The constants are the limits that the definitions name.
