@@ -127,6 +127,7 @@ pub fn draw(
     requires { Drawn x.now.image.now x.now.trailer first store.old }
     ensures { Silent result run store.old store.new (drawing (tables x.now) (of_types_at (tables x.now) first) script.now place) }
 {
+    // The list goes from row to row by their next fields: words are counted, and no range is gone over.
     let mut words = run.words;
     let mut r = first;
     while r != Image::NONE {

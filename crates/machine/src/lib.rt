@@ -184,7 +184,7 @@ fn run_select(
     run_branches(image, rows, r, a, size(z), store, script, values, run)
 }
 
-// Branch number k, 0 is the first.
+// Branch number k, 0 is the first: the list goes from row to row by their next fields.
 #[cycle(running)]
 fn run_branches(
     image: &&[u8],

@@ -185,7 +185,7 @@ pub enum Refusal {
 }
 
 impl Refusal {
-    // The number of the table.
+    // The number of the table. Two cases share 6, so that no discriminant says it.
     pub fn number(self) -> u16
         ensures { result ≡ number self }
     {

@@ -116,6 +116,7 @@ fn accept_all(
     requires { AcceptsAll x.now.image.now x.now.trailer w.b store.old values.old run }
     ensures { result_of result store.new values.new ≡ offering (tables x.now) (gate w.a) (offers_at (tables x.now) w.b) [] script.now place (state_of run store.old values.old) }
 {
+    // The list goes from row to row by their next fields: words and values are counted, and no range is gone over.
     let mut words = run.words;
     let mut count: u16 = 0;
     let mut r = w.b;
