@@ -2,7 +2,7 @@
 #![tactic(auto)]
 
 ghost use Rattle.image.specs.Located.{tables};
-ghost use Rattle.std.specs.Prelude.{◌≡◌, cond, length};
+ghost use Rattle.std.specs.Prelude.{◌≡◌, cond};
 ghost use Rattle.model.specs.declared.Refusal.TheVariants.{Blocked, BlockedSpoken};
 ghost use Rattle.model.specs.Answers.{row};
 ghost use Rattle.model.specs.Image.{tables_of};

@@ -1,19 +1,13 @@
 -- The entries of the rows, of the masks that are lent. Assumes nothing.
-use Rattle.std.specs.Prelude.{Ok, Err}
-use mathlib.Core.{Path.◌≡◌, Path.sym, Path.ap, Path.◌∙◌, Bool.Bool, Bool.false, List.List}
-use Prim.Native.Nat.{ℕ, ◌≤◌, ◌<◌}
+use mathlib.Core.{Path.◌≡◌, Path.ap, Path.◌∙◌, List.List}
+use Prim.Native.Nat.{ℕ}
 use native.Mathlib.Omega.{arith}
-use lib.{ListN.length, ListN.take, ListN.length-take, Seq.get_or-take}
-use Rattle.model.specs.declared.{Image.Image, Refusal.TheVariants.Binding}
-use Rattle.model.specs.Answers.{row, lowest}
-use Rattle.model.specs.Image.{tables_of, row_count}
-use Rattle.model.specs.Binding.{bound}
-use Rattle.model.proofs.Order.{lowest-full, each-full, each-refuses}
-use Rattle.image.proofs.Laid.{rows-count}
+use lib.{ListN.take, ListN.length-take, Seq.get_or-take}
+use Rattle.model.specs.declared.{Image.Image}
+use Rattle.model.specs.Image.{row_count}
 use Rattle.masks.specs.declared.Masks.{Masks}
 use Rattle.masks.specs.Masks.{masks}
-use Rattle.binding.specs.Bound.{binding_verdict, Masked, Ruled}
-use Rattle.binding.proofs.Readings.{few}
+use Rattle.binding.specs.Bound.{Masked, Ruled}
 
 -- the entries that the rows have
 pub ruled-front : {s : List ℕ} {i : Image} {n : ℕ} {ms : List Masks} → Masked s i ms → n ≡ row_count i → Ruled s i (take n ms)

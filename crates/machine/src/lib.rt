@@ -2,7 +2,7 @@
 // holds lead into each other. How a run ended is a number (crate told).
 #![tactic(auto)]
 
-ghost use Rattle.std.specs.Prelude.{◌≡◌, cond, suc, ◌+◌, ◌-◌, ◌/◌, ◌^◌, ◌≤◌, ◌<◌, leb, pos, length};
+ghost use Rattle.std.specs.Prelude.{◌≡◌, cond, suc, ◌-◌, ◌/◌, ◌^◌, ◌<◌, leb, pos, length};
 ghost use Rattle.model.specs.declared.{Refusal.TheVariants.Blocked, Refusal.TheVariants.BlockedSpoken, Outcome.TheVariants.Stops};
 ghost use Rattle.model.specs.Answers.{row};
 ghost use Rattle.model.specs.Image.{tables_of, fields_of};

@@ -1,7 +1,7 @@
 // Images written for people, in the report's notation.
 #![tactic(auto)]
 
-ghost use Rattle.std.specs.Prelude.{◌≡◌, ◌++◌, ◌<◌};
+ghost use Rattle.std.specs.Prelude.{◌≡◌, ◌<◌};
 ghost use Rattle.model.specs.Image.{fields_of};
 ghost use Rattle.image.specs.Located.{tables, Located};
 ghost use Rattle.text.specs.Emit.{page, Emitted};

@@ -1,6 +1,5 @@
 // The parts of what is written of an image.
 ghost use Rattle.std.specs.Prelude.{◌≡◌, ◌<◌, ◌≤◌, min, length};
-ghost use Rattle.model.specs.Image.{trailer_of, variable_count, state_count};
 ghost use Rattle.image.specs.Located.{tables, Located};
 ghost use Rattle.text.specs.Written.{Written};
 ghost use Rattle.notation.specs.Texts.{each};

@@ -1,7 +1,7 @@
 // The three calls on words, and as the C driver has them.
 #![tactic(auto)]
 
-ghost use Rattle.std.specs.Prelude.{◌≡◌, ◌++◌, ◌/◌, ◌^◌, ◌≤◌, ◌<◌, min, length, take, drop, Ok};
+ghost use Rattle.std.specs.Prelude.{◌≡◌, ◌/◌, ◌^◌, ◌≤◌, ◌<◌, min, length, Ok};
 ghost use Rattle.model.specs.Answers.{state};
 ghost use Rattle.model.specs.Calls.{check, start, step};
 ghost use Rattle.model.specs.Exports.{pack_refusal, pack_verdict, pack_stepped, check_bytes, start_bytes, step_bytes};

@@ -29,7 +29,7 @@ use Rattle.actions.proofs.Listed.{here-row, next-items}
 use Rattle.actions.proofs.Reading.{read_as, reading_of-by}
 use Rattle.actions.proofs.Drawing.{read_fits}
 use Rattle.offers.specs.declared.{Offered.Offered}
-use Rattle.offers.specs.Accepting.{Given, given, offer_by, emits, match_gives, word_gives, receives, accepts, gave, refused}
+use Rattle.offers.specs.Accepting.{Given, given, offer_by, emits, match_gives, word_gives, receives, accepts, gave}
 use Rattle.offers.specs.Asks.{Accepts, AcceptsAll, Communicates}
 use Rattle.offers.proofs.Accepted.{offer-good}
 

@@ -3,7 +3,7 @@ ghost use Rattle.std.specs.Prelude.{◌≤◌};
 
 use crate::line;
 use image::{Automaton, trailer};
-use model::{Image, Move, Refusal, State};
+use model::{Image, Move, State};
 use ntif::{check, start, step};
 use std::io;
 

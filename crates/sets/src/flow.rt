@@ -1,5 +1,5 @@
 // The walk of an action's rows (Figure 7): what holds where it ends, and what its jumps carry to each state.
-ghost use Rattle.std.specs.Prelude.{◌≡◌, true};
+ghost use Rattle.std.specs.Prelude.{true};
 ghost use Rattle.image.specs.Located.{tables};
 ghost use Rattle.model.specs.Rows.{branch, arm};
 ghost use Rattle.model.specs.Decode.{action_at};

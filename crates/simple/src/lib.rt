@@ -2,9 +2,8 @@
 #![tactic(auto)]
 
 ghost use Rattle.image.specs.Located.{tables};
-ghost use Rattle.std.specs.Prelude.{◌≡◌, ◌≤◌, length};
+ghost use Rattle.std.specs.Prelude.{◌≡◌};
 ghost use Rattle.model.specs.Image.{trailer_of, tables_of};
-ghost use Rattle.model.specs.Rows.{gets};
 ghost use Rattle.model.specs.Decode.{action_at, act_of, gets_at};
 ghost use Rattle.model.specs.Run.{assigning, exec_act};
 ghost use Rattle.actions.specs.State.{state_of, result_of};

@@ -6,11 +6,11 @@ mod arms;
 mod ways;
 
 ghost use Rattle.image.specs.Located.{tables};
-ghost use Rattle.std.specs.Prelude.{◌≡◌, ◌<◌, length, get_or};
+ghost use Rattle.std.specs.Prelude.{◌≡◌, ◌<◌};
 ghost use Rattle.model.specs.Image.{state_count, row_count};
 ghost use Rattle.model.specs.Decode.{act};
 ghost use Rattle.model.specs.Speech.{well_spoken};
-ghost use Rattle.speech.specs.Both.{both_of, unpacked};
+ghost use Rattle.speech.specs.Both.{both_of};
 ghost use Rattle.speech.specs.Filled.{ways_at, Filled, Lent, Ready};
 ghost use Rattle.speech.specs.Verdict.{speech_verdict, Judged};
 

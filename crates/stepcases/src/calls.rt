@@ -3,7 +3,7 @@ ghost use Rattle.std.specs.Prelude.{◌≤◌, length};
 
 use crate::answer;
 use bstr::ByteSlice;
-use model::{Move, Refusal, State};
+use model::State;
 use sections::{Case, Section, read_case};
 use starting::start;
 use std::io;

@@ -1,6 +1,6 @@
 // The run: start, then step after step.
 use crate::line;
-use model::{Image, Move, Refusal, State};
+use model::{Image, State};
 use starting::start;
 use std::io;
 use stepping::take_step;
