@@ -22,7 +22,7 @@ fn next_item(w: Fields) -> u16
 }
 
 // No variable of a vector stands in it twice: each is apart from those of the rest of the list.
-// No plainer as typing's all_pass: the next row is in field b or c by the code, and the test itself asks for it.
+// No plainer as typing's all_pass: the next row is in field b or c by the code, and the test reads that row's masks too.
 fn distinct_items(x: &Automaton, first: u16, masks: &[Masks]) -> bool
     requires { Vector x.now.image.now x.now.trailer first masks.now }
     ensures { result ≡ distinct (bits_at (tables x.now) first) }
@@ -40,7 +40,7 @@ fn distinct_items(x: &Automaton, first: u16, masks: &[Masks]) -> bool
 }
 
 // What an offer defines, and what it uses, is apart from what later offers define.
-// No plainer as typing's all_pass: the next row is in field b, and the test itself asks for it.
+// No plainer as typing's all_pass: the next row is in field b, and the test reads that row's masks too.
 fn bound_offers(x: &Automaton, first: u16, masks: &[Masks]) -> bool
     requires { Offers x.now.image.now x.now.trailer first masks.now }
     ensures { result ≡ bound_offers (offers_at (tables x.now) first) }

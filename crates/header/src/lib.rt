@@ -80,7 +80,7 @@ fn starts_fit(i: Image) -> bool
     i.gates <= Image::GATES
 }
 
-// Types from t on, which are neither bool nor int.
+// The types from 2 on, which are neither bool nor int.
 fn others_fit(x: &Automaton) -> bool
     requires { Located x.now.image.now x.now.trailer }
     ensures { result ≡ others_fit (drop 2 (tables x.now).sizes) }

@@ -63,7 +63,7 @@ fn onward(r: u16, v: u16, p: u32, store: &mut [i32]) -> u32
     }
 }
 
-// eval and test where the store is lent to be changed, and isn't.
+// eval and test of a store behind a &mut, which can be lent to be changed only (docs/DECISIONS.md, 71).
 fn eval_on(image: &[u8], rows: u16, e: u16, store: &mut [i32]) -> Option<i32>
     requires { Runs expression image.now rows e store.old }
     ensures { (result ≡ eval (tables_of image.now) (expression_at (tables_of image.now) e) store.old) × (store.new ≡ store.old) }
@@ -184,7 +184,8 @@ fn run_select(
     run_branches(image, rows, r, a, size(z), store, script, values, run)
 }
 
-// Branch number k, 0 is the first: the list goes from row to row by their next fields.
+// Branch number k, 0 is the first. The list goes from row to row by their next fields: k is counted down, and no range is
+// gone over.
 #[cycle(running)]
 fn run_branches(
     image: &&[u8],

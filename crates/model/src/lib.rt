@@ -22,8 +22,8 @@ pub struct Gate(pub u16);
 #[derive(Clone, Copy)]
 pub struct Row(pub u16);
 
-// The four fields of a row. The code stays a number: document 01's table and the definitions (shape_of) go by it, and an
-// enum, a second list of its names, would be no plainer.
+// The four fields of a row. The code stays a number: document 01 has it matched by ranges, and the definitions (shape_of) go
+// by it.
 #[derive(Clone, Copy)]
 pub struct Fields {
     pub code: u16,
@@ -221,7 +221,7 @@ impl Refusal {
         }
     }
 
-    // The place of the table.
+    // The place of the table: its cases are the table's, and no derive gives them.
     pub fn place(self) -> u16
         ensures { result ≡ place self }
     {

@@ -1,5 +1,6 @@
 // The lines of the notation that code asks for by number; those of a row are its code's and those of refusals follow by their
 // numbers, so that an enum would be no plainer.
+
 // Constants, by type.
 pub const FALSE: u16 = 67;
 

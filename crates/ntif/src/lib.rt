@@ -52,7 +52,7 @@ fn pack_verdict(v: Result<(), Refusal>) -> u64
     }
 }
 
-// The same on bytes.
+// check on bytes, with masks that its caller lends.
 fn check_bytes_on(image: &[u8], sets: &mut [u8], masks: &mut [u64]) -> u64
     requires { 64 ≤ length masks.old }
     ensures { record { answer = result; lent = sets.new } ≡ check_bytes image.now sets.old }
@@ -144,7 +144,7 @@ fn state_of(q: u32) -> State
     State(q.min(65535) as u16)
 }
 
-// The next state from bit 8, the units from bit 16, the words from bit 40 on.
+// The next state from bit 8, the units from bit 16, the words from bit 40 on: the C interface takes one number.
 fn pack_move(m: Move) -> u64
     requires { m.words < 2 ^ 23 }
     ensures { result ≡ pack_stepped (Ok m) }
@@ -155,7 +155,7 @@ fn pack_move(m: Move) -> u64
     next + (units + words)
 }
 
-// The same on bytes, with words that its caller lends: no more of them than can matter.
+// step on bytes, with words that its caller lends: no more of them than can matter.
 fn step_bytes_on(
     image: &[u8],
     q: u32,

@@ -118,7 +118,8 @@ pub fn matches(image: &[u8], rows: u16, p: u16, z: i32, store: &mut [i32]) -> Te
     }
 }
 
-// The first of the arms from a row on whose pattern matches; each is tried on the store at entry.
+// The first of the arms from a row on whose pattern matches; each is tried on the store at entry. Document 01 asks for one search
+// that leaves both walks at once, so that judge's walk stands here again.
 pub fn find_arm(image: &[u8], rows: u16, first: u16, z: i32, store: &mut [i32]) -> Found
     requires { Finds image.now rows first z store.old }
     ensures { finding result store.new ≡ find_arm (tables_of image.now) (list_at (tables_of image.now) first) z store.old }

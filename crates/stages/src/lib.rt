@@ -1,4 +1,4 @@
-// The stages 1 to 12 of check in their order, on scratch that the caller lends.
+// The stages 1 to 12 of check in their order, on scratch for as many rows as the image needs.
 #![tactic(auto)]
 
 ghost use Rattle.image.specs.Located.{tables};

@@ -55,7 +55,7 @@ impl<'a> Page<'a> {
         }
     }
 
-    // A number's decimal digits, the last digit after those of its tenth.
+    // A number's decimal digits, the last digit after those of its tenth. By hand: no heap, and its promise is these digits.
     pub fn emit_number(&mut self, n: u16)
         ensures { Written (decimal n []) self.old self.new }
     {
