@@ -1,10 +1,11 @@
 -- The ways of an assignment, and that the order of storing can't be seen. Assumes nothing.
+use Rattle.std.specs.Prelude.{Option, Some, None}
 use mathlib.Core.{Path.◌≡◌, Path.refl, Path.sym, Path.ap, Path.◌∙◌, Bool.Bool, Bool.true, Bool.false, List.List, List.[], List.◌∷◌}
 use Prim.Native.Nat.{ℕ, ◌+◌, ◌%◌, ◌<◌}
 use native.Mathlib.Omega.{arith}
 use lib.{IntN.ℤ, ListN.length, ListN.set}
 use borrow.Author.Tests.{ltb-true}
-use Rattle.model.specs.declared.{Fields.Fields, Value.Value, Value.TheVariants.Is, Value.TheVariants.Unknown}
+use Rattle.model.specs.declared.{Fields.Fields}
 use Rattle.model.specs.Answers.{variable}
 use Rattle.model.specs.Image.{Tables, none, tables_of, fields_of}
 use Rattle.model.specs.Rows.{expression, gets, another, next_of}
@@ -28,14 +29,14 @@ module _ (x : Tables) (m : List ℤ) (i : Gets) (items : List Gets) where
   rest_of : ℤ → Assigned → Assigned
   rest_of z q = elim q.done [ true ↦ made true (store q.store i.v z) | false ↦ made false m ]
 
-  item-unknown : eval x i.e m ≡ Unknown → assigns x (i ∷ items) m ≡ made false m
+  item-unknown : eval x i.e m ≡ None → assigns x (i ∷ items) m ≡ made false m
   unfolding assigns rest_of
-  item-unknown e = ap (λ (y : Value). elim y [ Is z ↦ rest_of z (assigns x items m) | Unknown ↦ made false m ]) e
+  item-unknown e = ap (λ (y : Option ℤ). elim y [ Some z ↦ rest_of z (assigns x items m) | None ↦ made false m ]) e
 
-  item-known : (z : ℤ) (q : Assigned) → eval x i.e m ≡ Is z → q ≡ assigns x items m → assigns x (i ∷ items) m ≡ rest_of z q
+  item-known : (z : ℤ) (q : Assigned) → eval x i.e m ≡ Some z → q ≡ assigns x items m → assigns x (i ∷ items) m ≡ rest_of z q
   unfolding assigns rest_of
   item-known z q e f =
-      ap (λ (y : Value). elim y [ Is u ↦ rest_of u (assigns x items m) | Unknown ↦ made false m ]) e ∙ ap (rest_of z) (sym f)
+      ap (λ (y : Option ℤ). elim y [ Some u ↦ rest_of u (assigns x items m) | None ↦ made false m ]) e ∙ ap (rest_of z) (sym f)
 
   rest-true : (z : ℤ) (q : Assigned) → q.done ≡ true → rest_of z q ≡ made true (store q.store i.v z)
   unfolding rest_of
@@ -70,11 +71,11 @@ module _ {s : List ℕ} {rows r : ℕ} {m : List ℤ} (h : Runs gets s rows r m)
   pub item-next : ((w.c + 1) % 65536 < (r + 1) % 65536) × Items gets s rows w.c m
   item-next = next-items refl h next_here
 
-  module _ {v : Value} (k : v ≡ eval (tables_of s) (expression_at (tables_of s) w.b) m) where
-    pub assign-unknown : v ≡ Unknown → made false m ≡ assigns (tables_of s) (gets_at (tables_of s) r) m
+  module _ {v : Option ℤ} (k : v ≡ eval (tables_of s) (expression_at (tables_of s) w.b) m) where
+    pub assign-unknown : v ≡ None → made false m ≡ assigns (tables_of s) (gets_at (tables_of s) r) m
     assign-unknown u = sym (rw gets_step (item-unknown (tables_of s) m _ _ (sym k ∙ u)))
 
-    module _ {z : ℤ} (u : v ≡ Is z) {d : Bool} {n : List ℤ} (q : made d n ≡ assigns (tables_of s) (gets_at (tables_of s) w.c) m) where
+    module _ {z : ℤ} (u : v ≡ Some z) {d : Bool} {n : List ℤ} (q : made d n ≡ assigns (tables_of s) (gets_at (tables_of s) w.c) m) where
       pub assign-stops : d ≡ false → n ≡ m → made d n ≡ assigns (tables_of s) (gets_at (tables_of s) r) m
       assign-stops a b = rw (a, b) (sym (rw gets_step (item-known (tables_of s) m _ _ z _ (sym k ∙ u) q ∙ rest-false (tables_of s) m _ _ z (made d n) a)))
 
@@ -97,11 +98,11 @@ unfolding assigns
 false-keeps x m [] e = let k : ◌≡◌ {A = ℕ} 0 1 = cc in absurd (omega arith)
 false-keeps x m (i ∷ items) e = go (eval x i.e m) refl
   where
-    go : (y : Value) → eval x i.e m ≡ y → (assigns x (i ∷ items) m).store ≡ m
-    go (Is z) f =
+    go : (y : Option ℤ) → eval x i.e m ≡ y → (assigns x (i ∷ items) m).store ≡ m
+    go (Some z) f =
         let q = item-known x m i items z (assigns x items m) f refl in
         ap (λ (p : Assigned). p.store) q ∙ rest-keeps x m i items z (assigns x items m) (ap (λ (p : Assigned). p.done) (sym q) ∙ e)
-    go Unknown f = ap (λ (p : Assigned). p.store) (item-unknown x m i items f)
+    go None f = ap (λ (p : Assigned). p.store) (item-unknown x m i items f)
 
 pub kept-where-false : (x : Tables) (m : List ℤ) (items : List Gets) {d : Bool} {n : List ℤ} → made d n ≡ assigns x items m → d ≡ false → n ≡ m
 kept-where-false x m items {d} {n} q a =

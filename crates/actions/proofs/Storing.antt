@@ -1,10 +1,11 @@
 -- An assignment's items are stored in one order in the definition and in another in the code: their variables are apart, so
 -- that it can't be seen. Assumes nothing.
+use Rattle.std.specs.Prelude.{Option, Some, None}
 use mathlib.Core.{Path.◌≡◌, Path.refl, Path.sym, Path.ap, Path.◌∙◌, Bool.Bool, Bool.true, Bool.false, List.List, List.[], List.◌∷◌, List.map}
 use Prim.Native.Nat.{ℕ, max}
 use native.Mathlib.Omega.{arith}
 use lib.{IntN.ℤ, Seq.set_comm}
-use Rattle.model.specs.declared.{Variable.Variable, Value.Value, Value.TheVariants.Is, Value.TheVariants.Unknown, Refusal.TheVariants.Undefined, Outcome.TheVariants.Ends, Outcome.TheVariants.Stops}
+use Rattle.model.specs.declared.{Variable.Variable, Refusal.TheVariants.Undefined, Outcome.TheVariants.Ends, Outcome.TheVariants.Stops}
 use Rattle.model.specs.Answers.{row}
 use Rattle.model.specs.Masks.{bit, digit, union, apart}
 use Rattle.model.specs.Image.{Tables}
@@ -36,20 +37,20 @@ others v (i ∷ items) e =
     cons (differs v i.v.0 p.0) (others v items p.1)
 
 -- an item's value stored after the others', where all are known; n else
-put_one : List ℤ → Variable → Value → Assigned → Assigned
-put_one n v (Is z) q = elim q.done [ true ↦ made true (store q.store v z) | false ↦ made false n ]
-put_one n v Unknown q = made false n
+put_one : List ℤ → Variable → Option ℤ → Assigned → Assigned
+put_one n v (Some z) q = elim q.done [ true ↦ made true (store q.store v z) | false ↦ made false n ]
+put_one n v None q = made false n
 
 -- evaluated in n, stored over m
 assigns_on : Tables → List Gets → List ℤ → List ℤ → Assigned
 assigns_on x [] n m = made true m
 assigns_on x (i ∷ items) n m = put_one n i.v (eval x i.e n) (assigns_on x items n m)
 
-as_one : (n : List ℤ) (v : Variable) (y : Value) (q : Assigned)
-    → ◌≡◌ {A = Assigned} (elim y [ Is z ↦ elim q.done [ true ↦ made true (store q.store v z) | false ↦ made false n ] | Unknown ↦ made false n ]) (put_one n v y q)
+as_one : (n : List ℤ) (v : Variable) (y : Option ℤ) (q : Assigned)
+    → ◌≡◌ {A = Assigned} (elim y [ Some z ↦ elim q.done [ true ↦ made true (store q.store v z) | false ↦ made false n ] | None ↦ made false n ]) (put_one n v y q)
 unfolding put_one
-as_one n v (Is z) q = refl
-as_one n v Unknown q = refl
+as_one n v (Some z) q = refl
+as_one n v None q = refl
 
 same-on : (x : Tables) (items : List Gets) (m : List ℤ) → assigns x items m ≡ assigns_on x items m m
 unfolding assigns assigns_on
@@ -60,12 +61,12 @@ same-on x (i ∷ items) m = as_one m i.v (eval x i.e m) (assigns x items m) ∙ 
 over : List ℤ → Assigned → Variable → ℤ → Assigned
 over n q v z = elim q.done [ true ↦ made true (store q.store v z) | false ↦ made false n ]
 
-pass-one : (n : List ℤ) (v w : Variable) (z : ℤ) (y : Value) (d : Bool) (l : List ℤ) → (w.0 ≡ v.0 → ⊥)
+pass-one : (n : List ℤ) (v w : Variable) (z : ℤ) (y : Option ℤ) (d : Bool) (l : List ℤ) → (w.0 ≡ v.0 → ⊥)
     → put_one n w y (over n (made d l) v z) ≡ over n (put_one n w y (made d l)) v z
 unfolding put_one over store
-pass-one n v w z (Is a) true l f = ap (made true) (set_comm l v.0 w.0 z a (λ e. f (sym e)))
-pass-one n v w z (Is a) false l f = refl
-pass-one n v w z Unknown d l f = refl
+pass-one n v w z (Some a) true l f = ap (made true) (set_comm l v.0 w.0 z a (λ e. f (sym e)))
+pass-one n v w z (Some a) false l f = refl
+pass-one n v w z None d l f = refl
 
 pass : (x : Tables) (n : List ℤ) (v : Variable) (z : ℤ) (items : List Gets) (m : List ℤ) → All (Other v.0) items
     → assigns_on x items n (store m v z) ≡ over n (assigns_on x items n m) v z
@@ -79,11 +80,11 @@ pass x n v z (i ∷ items) m (cons f fs) =
 abbrev pub by_assigned : Assigned → ℕ → St → Res
 by_assigned q r s = elim q.done [ true ↦ gives Ends (stored q.store s) | false ↦ gives (Stops (Undefined (row r))) s ]
 
-one_known : (n : List ℤ) (v : Variable) (z : ℤ) (q : Assigned) → over n q v z ≡ put_one n v (Is z) q
+one_known : (n : List ℤ) (v : Variable) (z : ℤ) (q : Assigned) → over n q v z ≡ put_one n v (Some z) q
 unfolding over put_one
 one_known n v z q = refl
 
-unknown-by : (n : List ℤ) (v : Variable) (q : Assigned) (r : ℕ) (s : St) → gives (Stops (Undefined (row r))) s ≡ by_assigned (put_one n v Unknown q) r s
+unknown-by : (n : List ℤ) (v : Variable) (q : Assigned) (r : ℕ) (s : St) → gives (Stops (Undefined (row r))) s ≡ by_assigned (put_one n v None q) r s
 unfolding put_one
 unknown-by n v q r s = refl
 
@@ -96,7 +97,7 @@ apart-first i items d =
 
 known-way : (x : Tables) (i : Gets) (items : List Gets) (r : ℕ) (m : List ℤ) (s : St) (z : ℤ) → All (Other i.v.0) items
     → storing x items r (store m i.v z) s ≡ by_assigned (assigns_on x items s.store (store m i.v z)) r s
-    → storing x items r (store m i.v z) s ≡ by_assigned (put_one s.store i.v (Is z) (assigns_on x items s.store m)) r s
+    → storing x items r (store m i.v z) s ≡ by_assigned (put_one s.store i.v (Some z) (assigns_on x items s.store m)) r s
 known-way x i items r m s z f h =
     h ∙ ap (λ (q : Assigned). by_assigned q r s) (pass x s.store i.v z items m f ∙ one_known s.store i.v z (assigns_on x items s.store m))
 
@@ -108,10 +109,10 @@ storing-on x (i ∷ items) r m s d =
     let p = apart-first i items d in
     go (eval x i.e s.store) (λ z. known-way x i items r m s z p.0 (storing-on x items r (store m i.v z) s p.1))
   where
-    go : (y : Value) → ((z : ℤ) → storing x items r (store m i.v z) s ≡ by_assigned (put_one s.store i.v (Is z) (assigns_on x items s.store m)) r s)
+    go : (y : Option ℤ) → ((z : ℤ) → storing x items r (store m i.v z) s ≡ by_assigned (put_one s.store i.v (Some z) (assigns_on x items s.store m)) r s)
         → valued y r s (λ z. storing x items r (store m i.v z) s) ≡ by_assigned (put_one s.store i.v y (assigns_on x items s.store m)) r s
-    go (Is z) h = valued-is (Is z) r s _ z refl ∙ h z
-    go Unknown h = valued-unknown Unknown r s _ refl ∙ unknown-by s.store i.v _ r s
+    go (Some z) h = valued-is (Some z) r s _ z refl ∙ h z
+    go None h = valued-unknown None r s _ refl ∙ unknown-by s.store i.v _ r s
 
 -- R11 as the code does it
 pub assigning-by : (x : Tables) (items : List Gets) (r : ℕ) (s : St) → distinct (map (λ i. bit i.v.0) items) ≡ true

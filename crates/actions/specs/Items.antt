@@ -1,7 +1,6 @@
 -- Items of a vector, and an assignment by them. Assumes nothing.
 use mathlib.Core.{Path.◌≡◌, Logic.◌⊎◌, Bool.Bool, Bool.true, Bool.false, List.List, List.[], List.◌∷◌}
-use Rattle.std.specs.Prelude.{ℕ, ℤ}
-use Rattle.model.specs.declared.{Value.TheVariants.Is, Value.TheVariants.Unknown}
+use Rattle.std.specs.Prelude.{ℕ, ℤ, Some, None}
 use Rattle.model.specs.Image.{Tables, none, trailer_of, tables_of}
 use Rattle.model.specs.Rows.{Kind, is_kind}
 use Rattle.model.specs.Trees.{Gets}
@@ -24,10 +23,10 @@ unfoldable pub assigns : Tables → List Gets → List ℤ → Assigned
 assigns x [] m = record { done = true; store = m }
 assigns x (i ∷ items) m =
     elim (eval x i.e m) [
-      | Is z ↦
+      | Some z ↦
           elim (assigns x items m).done [
             | true ↦ record { done = true; store = store (assigns x items m).store i.v z }
             | false ↦ record { done = false; store = m }
           ]
-      | Unknown ↦ record { done = false; store = m }
+      | None ↦ record { done = false; store = m }
     ]

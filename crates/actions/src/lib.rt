@@ -1,7 +1,8 @@
 // The simple actions that say nothing: assignment, any, reset; each on a working copy of the store.
 #![tactic(auto)]
 
-ghost use Rattle.std.specs.Prelude.{◌≡◌, cond, length};
+ghost use Rattle.image.specs.Located.{tables};
+ghost use Rattle.std.specs.Prelude.{◌≡◌, cond};
 ghost use Rattle.model.specs.declared.Refusal.TheVariants.{Blocked, BlockedSpoken};
 ghost use Rattle.model.specs.Answers.{row};
 ghost use Rattle.model.specs.Image.{tables_of};
@@ -10,12 +11,12 @@ ghost use Rattle.model.specs.Decode.{gets_at, variables_at, of_types_at, conditi
 ghost use Rattle.model.specs.Run.{choosing, resetting};
 ghost use Rattle.actions.specs.Doing.{Doing, trying};
 ghost use Rattle.actions.specs.Items.{Items, assigns};
-ghost use Rattle.actions.specs.State.{run_at, Silent};
+ghost use Rattle.actions.specs.State.{Silent};
 ghost use Rattle.actions.specs.Words.{word_of, Drawn, drawing};
 
 use expressions::{eval, row, test};
-use image::size;
-use model::{Fields, Image, Outcome, Refusal, Row, Tested, Value};
+use image::Automaton;
+use model::{Fields, Image, Outcome, Refusal, Row, Tested};
 use values::of_size;
 use words::word;
 
@@ -55,8 +56,8 @@ fn assign_all(image: &[u8], rows: u16, r: u16, store: &mut [i32]) -> bool
     }
     let w = row(image, rows, r);
     match eval(image, rows, w.b, store) {
-        Value::Unknown => false,
-        Value::Is(z) => {
+        None => false,
+        Some(z) => {
             let done = assign_all(image, rows, w.c, store);
             if done {
                 store[w.a as usize] = z;
@@ -79,8 +80,8 @@ pub fn assign(image: &[u8], rows: u16, r: u16, store: &mut [i32]) -> bool
         return assign_all(image, rows, r, store);
     }
     match eval(image, rows, w.b, store) {
-        Value::Unknown => false,
-        Value::Is(z) => {
+        None => false,
+        Some(z) => {
             store[w.a as usize] = z;
             true
         }
@@ -114,47 +115,37 @@ pub fn read_word(script: &[u8], i: usize, n: u16) -> Word
     Word::OutOfRange
 }
 
-// A run with so many words read.
-pub fn at_word(run: Run, words: usize) -> Run
-    ensures { result ≡ run_at run words }
-{
-    Run {
-        words: words,
-        left: run.left,
-        spoken: run.spoken,
-        gate: run.gate,
-        count: run.count,
-    }
-}
-
 // Any's words: each is read, judged and stored in its turn.
 pub fn draw(
-    image: &[u8],
-    i: Image,
+    x: &Automaton,
     place: u16,
     first: u16,
     store: &mut [i32],
     script: &[u8],
     run: Run,
 ) -> Ran
-    requires { Drawn image.now i first store.old }
-    ensures { Silent result run store.old store.new (drawing (tables_of image.now) (of_types_at (tables_of image.now) first) script.now place) }
+    requires { Drawn x.now.image.now x.now.trailer first store.old }
+    ensures { Silent result run store.old store.new (drawing (tables x.now) (of_types_at (tables x.now) first) script.now place) }
 {
+    // The list goes from row to row by their next fields: words are counted, and no range is gone over.
     let mut words = run.words;
     let mut r = first;
     while r != Image::NONE {
-        let w = row(image, i.rows, r);
-        match read_word(script, words, size(image, i, w.b)) {
+        let w = row(x.image, x.trailer.rows, r);
+        match read_word(script, words, x.size(w.b)) {
             Word::Ended => {
                 return Ran {
                     out: Outcome::Stops(Refusal::ScriptEnded(Row(place))),
-                    run: at_word(run, words),
+                    run: Run { words, ..run },
                 };
             }
             Word::OutOfRange => {
                 return Ran {
                     out: Outcome::Stops(Refusal::WordOutOfRange(Row(place))),
-                    run: at_word(run, words + 1),
+                    run: Run {
+                        words: words + 1,
+                        ..run
+                    },
                 };
             }
             Word::Read(z) => {
@@ -166,7 +157,7 @@ pub fn draw(
     }
     Ran {
         out: Outcome::Ends,
-        run: at_word(run, words),
+        run: Run { words, ..run },
     }
 }
 
@@ -188,42 +179,34 @@ fn try_condition(image: &[u8], rows: u16, r: u16, c: u16, store: &[i32], run: Ru
     if c == Image::NONE {
         return Ran {
             out: Outcome::Ends,
-            run: run,
+            run,
         };
     }
     match test(image, rows, c, store) {
         Tested::Holds => Ran {
             out: Outcome::Ends,
-            run: run,
+            run,
         },
         Tested::Fails => Ran {
             out: Outcome::Stops(blocked_at(r, run.spoken)),
-            run: run,
+            run,
         },
         Tested::Unsure => Ran {
             out: Outcome::Stops(Refusal::Undefined(Row(r))),
-            run: run,
+            run,
         },
     }
 }
 
 // 50, R12: all words are read before the condition is tried.
-pub fn choose(
-    image: &[u8],
-    i: Image,
-    r: u16,
-    w: Fields,
-    store: &mut [i32],
-    script: &[u8],
-    run: Run,
-) -> Ran
-    requires { Doing 50 image.now i r w store.old }
-    ensures { Silent result run store.old store.new (choosing (tables_of image.now) (of_types_at (tables_of image.now) w.a) (condition_at (tables_of image.now) w.b) script.now r) }
+pub fn choose(x: &Automaton, r: u16, w: Fields, store: &mut [i32], script: &[u8], run: Run) -> Ran
+    requires { Doing 50 x.now.image.now x.now.trailer r w store.old }
+    ensures { Silent result run store.old store.new (choosing (tables x.now) (of_types_at (tables x.now) w.a) (condition_at (tables x.now) w.b) script.now r) }
 {
-    let drawn = draw(image, i, r, w.a, store, script, run);
+    let drawn = draw(x, r, w.a, store, script, run);
     let out = drawn.out;
     match out {
-        Outcome::Ends => try_condition(image, i.rows, r, w.b, store, drawn.run),
+        Outcome::Ends => try_condition(x.image, x.trailer.rows, r, w.b, store, drawn.run),
         _ => drawn,
     }
 }

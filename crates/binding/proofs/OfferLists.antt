@@ -1,5 +1,5 @@
 -- A list of offers, row by row: what an offer defines or uses is apart from what later ones define. Assumes nothing.
-use mathlib.Core.{Path.◌≡◌, Path.refl, Path.sym, Path.ap, Path.◌∙◌, Path.subst, Logic.◌⊎◌, Logic.inl, Logic.inr, Logic.⊎_elim, Bool.Bool, Bool.true, Bool.false, Bool.◌&&◌, List.List, List.map}
+use mathlib.Core.{Path.◌≡◌, Path.sym, Path.ap, Path.◌∙◌, Path.subst, Logic.◌⊎◌, Logic.inl, Logic.inr, Logic.⊎_elim, Bool.Bool, Bool.true, Bool.false, Bool.◌&&◌, List.List, List.map}
 use Prim.Native.Nat.{ℕ, ◌+◌, ◌%◌, ◌≤◌, ◌<◌}
 use native.Mathlib.Omega.{arith}
 use lib.ListN.{length}
@@ -12,8 +12,8 @@ use Rattle.model.specs.Binding.{use_of_offer, def_of_offer, distinct, ordered}
 use Rattle.model.proofs.Rows.{Formed, Named, kind-of, is-kind, kind-in, row_is, next-named, and-false}
 use Rattle.model.proofs.Decode.{list_at-none, list_at-step}
 use Rattle.image.specs.Located.{RowOf}
-use Rattle.masks.specs.Masks.{use_at, def_at}
-use Rattle.masks.specs.Rows.{mask_in}
+use Rattle.masks.specs.declared.Masks.{Masks}
+use Rattle.masks.specs.Masks.{use_at, def_at, masks_in}
 use Rattle.masks.proofs.ByKind.{next-is, use-expression, def-expression, use-pattern, def-pattern, def-offers}
 use Rattle.binding.specs.Bound.{bound_offers, Offers}
 use Rattle.binding.proofs.Readings.{ok, short, in_rows, few, read-use, read-def}
@@ -46,7 +46,7 @@ module _ (x : Tables) (good : Formed x) (size : length x.rows ≤ none) where
   turn r some o q = rw (list_at-step x good r some, o.defines, o.uses, def-offers x good size r (next_of x r) q)
 
 -- row r of the list
-module _ {s : List ℕ} {i : Image} {r : ℕ} {uses defs : List ℕ} (v : Offers s i r uses defs) where
+module _ {s : List ℕ} {i : Image} {r : ℕ} {ms : List Masks} (v : Offers s i r ms) where
   pub offers-over : r ≡ none → true ≡ bound_offers (offers_at (tables_of s) r)
   unfolding bound_offers distinct ordered
   offers-over e = rw (e, list_at-none (tables_of s) (ok v.rooted))
@@ -76,11 +76,10 @@ module _ {s : List ℕ} {i : Image} {r : ℕ} {uses defs : List ℕ} (v : Offers
       next-at : (w.b ≡ none) ⊎ Named (tables_of s) r offer w.b
       next-at = rw next-eq offer-named
 
-      pub offer-next : Offers s i w.b uses defs
+      pub offer-next : Offers s i w.b ms
       offer-next = record {
         rooted = v.rooted;
-        used = v.used;
-        defined = v.defined;
+        exact = v.exact;
         starts = ⊎_elim (λ q. inl q) (λ q. inr q.kind) next-at;
       }
 
@@ -91,38 +90,38 @@ module _ {s : List ℕ} {i : Image} {r : ℕ} {uses defs : List ℕ} (v : Offers
           go (inl q) = omega (arith, offer-inside, few v.rooted)
           go (inr q) = omega (arith, q.below, offer-inside, few v.rooted)
 
-      -- later: what the later offers define; d and u: what this one defines and uses
-      module _ (later d u : ℕ) (g : later ≡ mask_in defs w.b) (h : d ≡ mask_in defs w.a) (k : u ≡ mask_in uses w.a) where
-        later-is : later ≡ def_at (tables_of s) (next_of (tables_of s) r)
-        later-is = g ∙ ap (mask_in defs) next-eq ∙ read-def v.rooted v.defined _ lower
+      -- n: the masks of the later offers; m: those of this one
+      module _ (n m : Masks) (g : n ≡ masks_in ms w.b) (h : m ≡ masks_in ms w.a) where
+        later-is : n.defs ≡ def_at (tables_of s) (next_of (tables_of s) r)
+        later-is = ap (λ (k : Masks). k.defs) g ∙ ap (λ r. (masks_in ms r).defs) next-eq ∙ read-def v.rooted v.exact _ lower
           where
             lower : (next_of (tables_of s) r ≡ none) ⊎ (next_of (tables_of s) r < row_count i)
             lower = ⊎_elim (λ q. inl q) (λ q. inr (omega (arith, q.below, offer-inside))) offer-named
 
-        defines-is : d ≡ def_at (tables_of s) (fields_of (tables_of s) r).a
+        defines-is : m.defs ≡ def_at (tables_of s) (fields_of (tables_of s) r).a
         defines-is =
-            h ∙ ap (λ (f : Fields). mask_in defs f.a) e
-            ∙ read-def v.rooted v.defined _ (inr (omega (arith, offer-own.below, offer-inside)))
+            ap (λ (k : Masks). k.defs) h ∙ ap (λ (f : Fields). (masks_in ms f.a).defs) e
+            ∙ read-def v.rooted v.exact _ (inr (omega (arith, offer-own.below, offer-inside)))
 
-        uses-is : u ≡ use_at (tables_of s) (fields_of (tables_of s) r).a
+        uses-is : m.uses ≡ use_at (tables_of s) (fields_of (tables_of s) r).a
         uses-is =
-            k ∙ ap (λ (f : Fields). mask_in uses f.a) e
-            ∙ read-use v.rooted v.used _ (inr (omega (arith, offer-own.below, offer-inside)))
+            ap (λ (k : Masks). k.uses) h ∙ ap (λ (f : Fields). (masks_in ms f.a).uses) e
+            ∙ read-use v.rooted v.exact _ (inr (omega (arith, offer-own.below, offer-inside)))
 
         offer-turn : bound_offers (offers_at (tables_of s) r)
-            ≡ ((apart d later && distinct (map def_of_offer (offers_at (tables_of s) w.b))) && (apart u later && ordered (offers_at (tables_of s) w.b)))
+            ≡ ((apart m.defs n.defs && distinct (map def_of_offer (offers_at (tables_of s) w.b))) && (apart m.uses n.defs && ordered (offers_at (tables_of s) w.b)))
         offer-turn =
             turn (tables_of s) (ok v.rooted) (short v.rooted) r here offer-own offer-named
             ∙ rw (defines-is, uses-is, later-is, next-eq)
 
-        module _ (a b : Bool) (t : a ≡ apart d later) (y : b ≡ apart u later) where
+        module _ (a b : Bool) (t : a ≡ apart m.defs n.defs) (y : b ≡ apart m.uses n.defs) where
           pub offer-uses : b ≡ false → false ≡ bound_offers (offers_at (tables_of s) r)
-          offer-uses q = sym (offer-turn ∙ rw (← y, q) (and-false (apart d later && distinct (map def_of_offer (offers_at (tables_of s) w.b)))))
+          offer-uses q = sym (offer-turn ∙ rw (← y, q) (and-false (apart m.defs n.defs && distinct (map def_of_offer (offers_at (tables_of s) w.b)))))
 
           pub offer-passes : a ≡ true → b ≡ true → bound_offers (offers_at (tables_of s) w.b) ≡ bound_offers (offers_at (tables_of s) r)
           unfolding bound_offers
           offer-passes p q = sym (offer-turn ∙ rw (← t, ← y, p, q))
 
-      pub offer-defines : (later d : ℕ) → later ≡ mask_in defs w.b → d ≡ mask_in defs w.a → (a : Bool) → a ≡ apart d later
+      pub offer-defines : (n m : Masks) → n ≡ masks_in ms w.b → m ≡ masks_in ms w.a → (a : Bool) → a ≡ apart m.defs n.defs
           → a ≡ false → false ≡ bound_offers (offers_at (tables_of s) r)
-      offer-defines later d g h a t q = sym (offer-turn later d (mask_in uses w.a) g h refl ∙ rw (← t, q))
+      offer-defines n m g h a t q = sym (offer-turn n m g h ∙ rw (← t, q))

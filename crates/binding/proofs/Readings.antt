@@ -1,19 +1,20 @@
 -- The masks of the rows of an image free of 1 to 6, as the rules read them. Assumes nothing.
-use mathlib.Core.{Path.◌≡◌, Logic.◌⊎◌, List.List}
+use mathlib.Core.{Path.◌≡◌, Path.sym, Path.ap, Path.◌∙◌, Logic.◌⊎◌, Logic.inl, Logic.inr, List.List}
 use Prim.Native.Nat.{ℕ, ◌≤◌, ◌<◌}
 use native.Mathlib.Omega.{arith}
-use lib.ListN.{length}
+use lib.ListN.{length, get_or-eq_default}
 use Rattle.model.specs.declared.Image.{Image}
 use Rattle.model.specs.Image.{none, tables_of, row_count, fields_of}
 use Rattle.model.specs.Rows.{means_at}
 use Rattle.model.proofs.Rows as Model
 use Rattle.image.specs.Located.{Rooted}
 use Rattle.image.proofs.Laid.{laid, rows-count, variables-count, states-count}
-use Rattle.masks.specs.Masks.{use_at, def_at}
-use Rattle.masks.specs.Rows.{mask_in, Small}
+use Rattle.masks.specs.declared.Masks.{Masks}
+use Rattle.masks.specs.Masks.{use_at, def_at, masks, masks_in}
+use Rattle.masks.specs.Rows.{Small}
 use Rattle.masks.proofs.ByKind.{use-none, def_none}
 use Rattle.masks.proofs.ByRow.{small_row}
-use Rattle.masks.proofs.Filling.{formed-of, rows_short, read}
+use Rattle.masks.proofs.Filling.{formed-of, rows_short}
 use Rattle.binding.specs.Bound.{Exact}
 
 module _ {s : List ℕ} {i : Image} (h : Rooted s i) where
@@ -35,12 +36,15 @@ module _ {s : List ℕ} {i : Image} (h : Rooted s i) where
       let k = laid l in
       small_row (tables_of s) (omega (arith, variables-count l, k.variables_most)) (omega (arith, states-count l, k.states_most)) ok r
 
-  pub read-use : {uses : List ℕ} → Exact (use_at (tables_of s)) (row_count i) uses → (n : ℕ) → (n ≡ none) ⊎ (n < row_count i)
-      → mask_in uses n ≡ use_at (tables_of s) n
-  read-use {uses} e n p =
-      read (use_at (tables_of s)) uses (row_count i) n (omega (arith, e.size, few)) (use-none (tables_of s) ok short) e.each p
+  -- the masks of a row, and of none
+  module _ {ms : List Masks} (e : Exact (tables_of s) (row_count i) ms) where
+    past : masks_in ms none ≡ masks 0 0 0
+    past = get_or-eq_default ms (masks 0 0 0) (omega (arith, e.size, few))
 
-  pub read-def : {defs : List ℕ} → Exact (def_at (tables_of s)) (row_count i) defs → (n : ℕ) → (n ≡ none) ⊎ (n < row_count i)
-      → mask_in defs n ≡ def_at (tables_of s) n
-  read-def {defs} e n p =
-      read (def_at (tables_of s)) defs (row_count i) n (omega (arith, e.size, few)) (def_none (tables_of s) ok short) e.each p
+    pub read-use : (n : ℕ) → (n ≡ none) ⊎ (n < row_count i) → (masks_in ms n).uses ≡ use_at (tables_of s) n
+    read-use n (inl q) = rw q (ap (λ (m : Masks). m.uses) past ∙ sym (use-none (tables_of s) ok short))
+    read-use n (inr l) = e.use_row n l
+
+    pub read-def : (n : ℕ) → (n ≡ none) ⊎ (n < row_count i) → (masks_in ms n).defs ≡ def_at (tables_of s) n
+    read-def n (inl q) = rw q (ap (λ (m : Masks). m.defs) past ∙ sym (def_none (tables_of s) ok short))
+    read-def n (inr l) = e.def_row n l

@@ -13,10 +13,9 @@ use Rattle.model.specs.Binding.{bound_act, distinct, parameters_of, bound}
 use Rattle.model.proofs.Rows.{Formed, Named, Row, row_of, row_is, is-kind, both_true, and-true}
 use Rattle.model.proofs.Codes.{shape-past}
 use Rattle.model.proofs.Decode.{action_at-is}
-use Rattle.image.specs.Located.{RowOf}
 use Rattle.image.proofs.Laid.{condition-is}
-use Rattle.masks.specs.Masks.{use_at, def_at}
-use Rattle.masks.specs.Rows.{mask_in}
+use Rattle.masks.specs.declared.Masks.{Masks}
+use Rattle.masks.specs.Masks.{use_at, def_at, masks_in}
 use Rattle.masks.proofs.ByCode.{each_at, all_from, all-from}
 use Rattle.masks.proofs.ByKind.{use-expression, def-action, def-range}
 use Rattle.binding.specs.Bound.{bits_at, bound_offers, Item, Vector, Offers, Rule}
@@ -117,10 +116,7 @@ starts-of : {x : Tables} {r n : ℕ} {k : Kind} {t : Type 0} → (n ≡ none) �
 starts-of (inl e) = inl e
 starts-of (inr p) = inr p.0.kind
 
-module _ {s : List ℕ} {i : Image} {r : ℕ} {uses defs : List ℕ} {allowed : ℕ} (h : Rule s i r uses defs allowed) where
-  pub rule-row : RowOf s i r
-  rule-row = record { located = h.ruled.rooted.formed.located; inside = h.inside }
-
+module _ {s : List ℕ} {i : Image} {r : ℕ} {ms : List Masks} {allowed : ℕ} (h : Rule s i r ms allowed) where
   condition-at : i.condition ≡ (tables_of s).condition
   condition-at = sym (condition-is h.ruled.rooted.formed.located)
 
@@ -128,10 +124,10 @@ module _ {s : List ℕ} {i : Image} {r : ℕ} {uses defs : List ℕ} {allowed : 
   unfolding is_root
   condition-kind = (both_true (ltb (tables_of s).condition (length (tables_of s).rows)) _ h.ruled.rooted.condition).1
 
-  pub rule-condition : (u : ℕ) (b : Bool) → r ≡ i.condition → u ≡ mask_in uses r → b ≡ inside u allowed → b ≡ bound (tables_of s) r
-  rule-condition u b e g t =
+  pub rule-condition : (m : Masks) (b : Bool) → r ≡ i.condition → m ≡ masks_in ms r → b ≡ inside m.uses allowed → b ≡ bound (tables_of s) r
+  rule-condition m b e g t =
       let q = e ∙ condition-at in
-      t ∙ rw (g, h.parameters, read-use h.ruled.rooted h.ruled.used r (inr h.inside))
+      t ∙ rw (g, h.parameters, read-use h.ruled.rooted h.ruled.exact r (inr h.inside))
       (sym (bound-condition (tables_of s) (ok h.ruled.rooted) r q (rw q condition-kind)))
 
   module _ (w : Fields) (e : w ≡ fields_of (tables_of s) r) where
@@ -151,25 +147,24 @@ module _ {s : List ℕ} {i : Image} {r : ℕ} {uses defs : List ℕ} {allowed : 
         each_at (λ n. Row (tables_of s) r w (shape_of n).means → Listed) 49 3
         (λ t. (gets, tt, t.a.0.kind), (λ t. (of_type, tt, t.a.0.kind), (λ t. (item, tt, t.a.0.kind), tt))) w.code a b row_at
 
-    pub rule-vector : 49 ≤ w.code → w.code < 52 → Vector s i w.a defs
+    pub rule-vector : 49 ≤ w.code → w.code < 52 → Vector s i w.a ms
     rule-vector a b = let t = vector-kind a b in record {
       rooted = h.ruled.rooted;
-      defined = h.ruled.defined;
+      exact = h.ruled.exact;
       kind = t.0;
       item = t.1;
       starts = inr t.2;
     }
 
-    pub rule-offers : w.code ≡ 52 → Offers s i w.b uses defs
+    pub rule-offers : w.code ≡ 52 → Offers s i w.b ms
     unfolding shape_of lookup codes
     rule-offers c = record {
       rooted = h.ruled.rooted;
-      used = h.ruled.used;
-      defined = h.ruled.defined;
+      exact = h.ruled.exact;
       starts = starts-of (subst (λ (k : ℕ). Row (tables_of s) r w (shape_of k).means) c row_at).b;
     }
 
-    pub rule-for : (d k : ℕ) (b : Bool) → w.code ≡ 60 → d ≡ mask_in defs w.a → k ≡ mask_in defs w.b → b ≡ apart d k
+    pub rule-for : (d k : Masks) (b : Bool) → w.code ≡ 60 → d ≡ masks_in ms w.a → k ≡ masks_in ms w.b → b ≡ apart d.defs k.defs
         → b ≡ bound_by (tables_of s) w (shape_of w.code).means
     unfolding shape_of lookup codes
     rule-for d k b c f g t =
@@ -177,5 +172,5 @@ module _ {s : List ℕ} {i : Image} {r : ℕ} {uses defs : List ℕ} {allowed : 
         let n = h.inside in
         let y = q.a.below in
         let z = q.b.below in
-        t ∙ rw (f, g, read-def h.ruled.rooted h.ruled.defined w.a (inr (omega arith)), read-def h.ruled.rooted h.ruled.defined w.b (inr (omega arith)))
+        t ∙ rw (f, g, read-def h.ruled.rooted h.ruled.exact w.a (inr (omega arith)), read-def h.ruled.rooted h.ruled.exact w.b (inr (omega arith)))
         (at-for (tables_of s) w c)

@@ -14,8 +14,9 @@ use Rattle.model.specs.Binding.{distinct}
 use Rattle.model.proofs.Rows.{Formed, Named, Meaning, kind-of, is-kind, kind-in, next-named}
 use Rattle.model.proofs.Decode.{list_at-none, list_at-step}
 use Rattle.image.specs.Located.{RowOf}
-use Rattle.masks.specs.Masks.{def_at}
-use Rattle.masks.specs.Rows.{mask_in, Small}
+use Rattle.masks.specs.declared.Masks.{Masks}
+use Rattle.masks.specs.Masks.{def_at, masks_in}
+use Rattle.masks.specs.Rows.{Small}
 use Rattle.masks.proofs.ByKind.{def-gets, def-of-types, def-items}
 use Rattle.binding.specs.Bound.{bits_at, Item, Vector, next_in}
 use Rattle.binding.proofs.Readings.{ok, short, in_rows, few, small_at, read-def}
@@ -67,7 +68,7 @@ module _ (x : Tables) (good : Formed x) (size : length x.rows ≤ none) where
   turn k p r some q = rw (list_at-step x good r some, def-bits k p r (next_of x r) q)
 
 -- ---- row r of the list
-module _ {s : List ℕ} {i : Image} {r : ℕ} {defs : List ℕ} (v : Vector s i r defs) where
+module _ {s : List ℕ} {i : Image} {r : ℕ} {ms : List Masks} (v : Vector s i r ms) where
   pub vector-over : r ≡ none → true ≡ distinct (bits_at (tables_of s) r)
   unfolding distinct
   vector-over e = rw (e, list_at-none (tables_of s) (ok v.rooted))
@@ -104,10 +105,10 @@ module _ {s : List ℕ} {i : Image} {r : ℕ} {defs : List ℕ} (v : Vector s i 
         next-at : (n ≡ none) ⊎ Named (tables_of s) r v.kind n
         next-at = rw next-eq vector-named
 
-        pub vector-next : Vector s i n defs
+        pub vector-next : Vector s i n ms
         vector-next = record {
           rooted = v.rooted;
-          defined = v.defined;
+          exact = v.exact;
           kind = v.kind;
           item = v.item;
           starts = ⊎_elim (λ q. inl q) (λ q. inr q.kind) next-at;
@@ -120,11 +121,11 @@ module _ {s : List ℕ} {i : Image} {r : ℕ} {defs : List ℕ} (v : Vector s i 
             go (inl q) = omega (arith, vector-inside, few v.rooted)
             go (inr q) = omega (arith, q.below, vector-inside, few v.rooted)
 
-        module _ (b d : ℕ) (a : Bool) (f : b ≡ bit w.a) (h : d ≡ mask_in defs n) (t : a ≡ apart b d) where
+        module _ (b : ℕ) (d : Masks) (a : Bool) (f : b ≡ bit w.a) (h : d ≡ masks_in ms n) (t : a ≡ apart b d.defs) where
           vector-turn : distinct (bits_at (tables_of s) r) ≡ (a && distinct (bits_at (tables_of s) n))
           vector-turn =
               turn (tables_of s) (ok v.rooted) (short v.rooted) v.kind v.item r here vector-named
-              ∙ rw (t, f, h, e, next-eq, read-def v.rooted v.defined _ lower)
+              ∙ rw (t, f, h, e, next-eq, read-def v.rooted v.exact _ lower)
             where
               lower : (next_of (tables_of s) r ≡ none) ⊎ (next_of (tables_of s) r < row_count i)
               lower = ⊎_elim (λ q. inl q) (λ q. inr (omega (arith, q.below, vector-inside))) vector-named

@@ -1,8 +1,8 @@
 -- Binding on rows (refusal 9): its verdict, and what its functions ask and find. Assumes nothing.
 use mathlib.Core.{Path.◌≡◌, Logic.◌⊎◌, Bool.Bool, Bool.true, Bool.◌&&◌, List.List, List.map}
-use Rattle.std.specs.Prelude.{ℕ, ◌<◌, ◌≤◌, length, get_or}
-use Rattle.model.specs.declared.{Fields.Fields, Image.Image, Verdict.Verdict, Refusal.TheVariants.Binding}
-use Rattle.model.specs.Answers.{row, each}
+use Rattle.std.specs.Prelude.{ℕ, ◌<◌, ◌≤◌, length}
+use Rattle.model.specs.declared.{Fields.Fields, Image.Image, Refusal.TheVariants.Binding}
+use Rattle.model.specs.Answers.{row, each, Verdict}
 use Rattle.model.specs.Masks.{bit}
 use Rattle.model.specs.Image.{Tables, none, tables_of, fields_of, row_count}
 use Rattle.model.specs.Rows.{Kind, expression, pattern, offer, gets, of_type, item, range, action, branch, arm, unknown, shape_of, is_kind, pick_next}
@@ -10,24 +10,25 @@ use Rattle.model.specs.Trees.{Offer}
 use Rattle.model.specs.Decode.{list_at}
 use Rattle.model.specs.Binding.{def_of_offer, distinct, ordered, parameters_of, bound}
 use Rattle.image.specs.Located.{Rooted}
-use Rattle.masks.specs.Masks.{use_at, def_at}
+use Rattle.masks.specs.declared.Masks.{Masks}
+use Rattle.masks.specs.Masks.{use_at, def_at, masks_in}
 
 -- 9, by itself
 unfoldable pub binding_verdict : Tables → Verdict
 binding_verdict x = each (bound x) (length x.rows) (λ r. Binding (row r))
 
 -- the masks of every row's variables are filled in
-pub record Masked (s : List ℕ) (i : Image) (uses defs : List ℕ) : Type 0 where
+pub record Masked (s : List ℕ) (i : Image) (ms : List Masks) : Type 0 where
   pub rooted : Rooted s i
-  pub use_row : (r : ℕ) → r < row_count i → get_or uses r 0 ≡ use_at (tables_of s) r
-  pub def_row : (r : ℕ) → r < row_count i → get_or defs r 0 ≡ def_at (tables_of s) r
-  pub uses_size : row_count i ≤ length uses
-  pub defs_size : row_count i ≤ length defs
+  pub use_row : (r : ℕ) → r < row_count i → (masks_in ms r).uses ≡ use_at (tables_of s) r
+  pub def_row : (r : ℕ) → r < row_count i → (masks_in ms r).defs ≡ def_at (tables_of s) r
+  pub size : row_count i ≤ length ms
 
--- the masks of n rows and nothing after them, so that none is past the end
-pub record Exact (f : ℕ → ℕ) (n : ℕ) (masks : List ℕ) : Type 0 where
-  pub each : (r : ℕ) → r < n → get_or masks r 0 ≡ f r
-  pub size : length masks ≡ n
+-- the masks of n rows' variables and nothing after them, so that none is past the end
+pub record Exact (x : Tables) (n : ℕ) (ms : List Masks) : Type 0 where
+  pub use_row : (r : ℕ) → r < n → (masks_in ms r).uses ≡ use_at x r
+  pub def_row : (r : ℕ) → r < n → (masks_in ms r).defs ≡ def_at x r
+  pub size : length ms ≡ n
 
 -- the bits of the variables of the list that starts at row r, or none
 abbrev pub bits_at : Tables → ℕ → List ℕ
@@ -56,29 +57,27 @@ abbrev pub Starts : Tables → Kind → ℕ → Type 0
 Starts x k r = (r ≡ none) ⊎ (is_kind x k r ≡ true)
 
 -- a vector's items, the first of them at row r
-pub record Vector (s : List ℕ) (i : Image) (r : ℕ) (defs : List ℕ) : Type 0 where
+pub record Vector (s : List ℕ) (i : Image) (r : ℕ) (ms : List Masks) : Type 0 where
   pub rooted : Rooted s i
-  pub defined : Exact (def_at (tables_of s)) (row_count i) defs
+  pub exact : Exact (tables_of s) (row_count i) ms
   pub kind : Kind
   pub item : Item kind
   pub starts : Starts (tables_of s) kind r
 
 -- a list of offers, the first of them at row r
-pub record Offers (s : List ℕ) (i : Image) (r : ℕ) (uses defs : List ℕ) : Type 0 where
+pub record Offers (s : List ℕ) (i : Image) (r : ℕ) (ms : List Masks) : Type 0 where
   pub rooted : Rooted s i
-  pub used : Exact (use_at (tables_of s)) (row_count i) uses
-  pub defined : Exact (def_at (tables_of s)) (row_count i) defs
+  pub exact : Exact (tables_of s) (row_count i) ms
   pub starts : Starts (tables_of s) offer r
 
 -- the rules of every row
-pub record Ruled (s : List ℕ) (i : Image) (uses defs : List ℕ) : Type 0 where
+pub record Ruled (s : List ℕ) (i : Image) (ms : List Masks) : Type 0 where
   pub rooted : Rooted s i
-  pub used : Exact (use_at (tables_of s)) (row_count i) uses
-  pub defined : Exact (def_at (tables_of s)) (row_count i) defs
+  pub exact : Exact (tables_of s) (row_count i) ms
 
 -- the rule of row r, with the parameters at hand
-pub record Rule (s : List ℕ) (i : Image) (r : ℕ) (uses defs : List ℕ) (allowed : ℕ) : Type 0 where
-  pub ruled : Ruled s i uses defs
+pub record Rule (s : List ℕ) (i : Image) (r : ℕ) (ms : List Masks) (allowed : ℕ) : Type 0 where
+  pub ruled : Ruled s i ms
   pub inside : r < row_count i
   pub parameters : allowed ≡ parameters_of (tables_of s).variables
 

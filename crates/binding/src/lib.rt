@@ -2,16 +2,16 @@
 // of a for leaves its variable alone, and the initial condition reads parameters only.
 #![tactic(auto)]
 
+ghost use Rattle.image.specs.Located.{tables};
 ghost use Rattle.std.specs.Prelude.{◌≡◌};
-ghost use Rattle.model.specs.Image.{tables_of};
 ghost use Rattle.model.specs.Rows.{kind_of, shape_of};
 ghost use Rattle.model.specs.Decode.{offers_at};
 ghost use Rattle.model.specs.Binding.{distinct, bound};
 ghost use Rattle.binding.specs.Bound.{binding_verdict, Masked, bits_at, bound_offers, Item, Vector, Offers, Ruled, Rule, next_in};
 
-use image::{fields, row_count};
-use masks::{apart, bit, inside, mask, parameters};
-use model::{Fields, Image, Refusal, Row, Verdict};
+use image::Automaton;
+use masks::{Masks, apart, bit, inside, masks_in, parameters};
+use model::{Fields, Image, Refusal, Row};
 
 // The row after an item's: only code 46 has it in field b.
 fn next_item(w: Fields) -> u16
@@ -22,15 +22,16 @@ fn next_item(w: Fields) -> u16
 }
 
 // No variable of a vector stands in it twice: each is apart from those of the rest of the list.
-fn distinct_items(image: &[u8], i: Image, first: u16, defs: &[u64]) -> bool
-    requires { Vector image.now i first defs.now }
-    ensures { result ≡ distinct (bits_at (tables_of image.now) first) }
+// No plainer as typing's all_pass: the next row is in field b or c by the code, and the test reads that row's masks too.
+fn distinct_items(x: &Automaton, first: u16, masks: &[Masks]) -> bool
+    requires { Vector x.now.image.now x.now.trailer first masks.now }
+    ensures { result ≡ distinct (bits_at (tables x.now) first) }
 {
     let mut r = first;
     while r != Image::NONE {
-        let w = fields(image, i, r);
+        let w = x.fields(r);
         let next = next_item(w);
-        if !apart(bit(w.a), mask(defs, next)) {
+        if !apart(bit(w.a), masks_in(masks, next).defs) {
             return false;
         }
         r = next;
@@ -39,18 +40,20 @@ fn distinct_items(image: &[u8], i: Image, first: u16, defs: &[u64]) -> bool
 }
 
 // What an offer defines, and what it uses, is apart from what later offers define.
-fn bound_offers(image: &[u8], i: Image, first: u16, uses: &[u64], defs: &[u64]) -> bool
-    requires { Offers image.now i first uses.now defs.now }
-    ensures { result ≡ bound_offers (offers_at (tables_of image.now) first) }
+// No plainer as typing's all_pass: the next row is in field b, and the test reads that row's masks too.
+fn bound_offers(x: &Automaton, first: u16, masks: &[Masks]) -> bool
+    requires { Offers x.now.image.now x.now.trailer first masks.now }
+    ensures { result ≡ bound_offers (offers_at (tables x.now) first) }
 {
     let mut r = first;
     while r != Image::NONE {
-        let w = fields(image, i, r);
-        let later = mask(defs, w.b);
-        if !apart(mask(defs, w.a), later) {
+        let w = x.fields(r);
+        let offer = masks_in(masks, w.a);
+        let later = masks_in(masks, w.b).defs;
+        if !apart(offer.defs, later) {
             return false;
         }
-        if !apart(mask(uses, w.a), later) {
+        if !apart(offer.uses, later) {
             return false;
         }
         r = w.b;
@@ -59,45 +62,41 @@ fn bound_offers(image: &[u8], i: Image, first: u16, uses: &[u64], defs: &[u64]) 
 }
 
 // Row r's rule. The condition's row is an expression, so it has no rule but that it reads what is allowed: parameters.
-fn bound(image: &[u8], i: Image, r: u16, uses: &[u64], defs: &[u64], allowed: u64) -> bool
-    requires { Rule image.now i r uses.now defs.now allowed }
-    ensures { result ≡ bound (tables_of image.now) r }
+fn bound(x: &Automaton, r: u16, masks: &[Masks], allowed: u64) -> bool
+    requires { Rule x.now.image.now x.now.trailer r masks.now allowed }
+    ensures { result ≡ bound (tables x.now) r }
 {
-    if r == i.condition {
-        return inside(mask(uses, r), allowed);
+    if r == x.trailer.condition {
+        return inside(masks_in(masks, r).uses, allowed);
     }
-    let w = fields(image, i, r);
+    let w = x.fields(r);
     let code = w.code;
     match code {
-        49..=51 => distinct_items(image, i, w.a, defs),
-        52 => bound_offers(image, i, w.b, uses, defs),
-        60 => apart(mask(defs, w.a), mask(defs, w.b)),
+        49..=51 => distinct_items(x, w.a, masks),
+        52 => bound_offers(x, w.b, masks),
+        60 => apart(masks_in(masks, w.a).defs, masks_in(masks, w.b).defs),
         _ => true,
     }
 }
 
 // The lowest row whose rule fails.
-fn rows_verdict(image: &[u8], i: Image, uses: &[u64], defs: &[u64]) -> Verdict
-    requires { Ruled image.now i uses.now defs.now }
-    ensures { result ≡ binding_verdict (tables_of image.now) }
+fn rows_verdict(x: &Automaton, masks: &[Masks]) -> Result<(), Refusal>
+    requires { Ruled x.now.image.now x.now.trailer masks.now }
+    ensures { result ≡ binding_verdict (tables x.now) }
 {
-    let allowed = parameters(image, i);
-    let n = uses.len() as u16;
-    let mut r: u16 = 0;
-    while r < n {
-        if !bound(image, i, r, uses, defs, allowed) {
-            return Verdict::Refused(Refusal::Binding(Row(r)));
-        }
-        r += 1;
+    let allowed = parameters(x);
+    let n = x.row_count();
+    match (0..n).find(|r| !bound(x, *r, masks, allowed)) {
+        Some(r) => Err(Refusal::Binding(Row(r))),
+        None => Ok(()),
     }
-    Verdict::Accepted
 }
 
 // 9: binding. What is lent on ends where the rows end, so that none is past it.
-pub fn binding_verdict(image: &[u8], i: Image, uses: &[u64], defs: &[u64]) -> Verdict
-    requires { Masked image.now i uses.now defs.now }
-    ensures { result ≡ binding_verdict (tables_of image.now) }
+pub fn binding_verdict(x: &Automaton, masks: &[Masks]) -> Result<(), Refusal>
+    requires { Masked x.now.image.now x.now.trailer masks.now }
+    ensures { result ≡ binding_verdict (tables x.now) }
 {
-    let n = row_count(image, i) as usize;
-    rows_verdict(image, i, &uses[..n], &defs[..n])
+    let n = x.row_count() as usize;
+    rows_verdict(x, &masks[..n])
 }

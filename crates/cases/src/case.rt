@@ -1,10 +1,9 @@
 // A case run, and its answer written.
-ghost use Rattle.std.specs.Prelude.{◌≤◌, length};
+ghost use Rattle.std.specs.Prelude.{◌≤◌, length, IfSome};
 
-use crate::build::{Length, build, states};
-use crate::scan::sections;
-use memchr::memchr;
-use model::Verdict;
+use bstr::ByteSlice;
+use model::Refusal;
+use sections::{Case, Section, read_case};
 use std::io;
 
 // Bytes kept for an image, and words for its sets.
@@ -15,40 +14,27 @@ const SETS: usize = 128;
 // What every word of the sets buffer holds before a call.
 const OLD: u64 = 12297829382473034410;
 
-// Whether the words from a place on are still the old ones.
-fn kept(sets: &[u64], from: usize) -> bool {
-    for i in from..sets.len() {
-        if sets[i] != OLD {
-            return false;
-        }
-    }
-    true
-}
-
-fn number(rt: &impl Print, n: u64) -> io::Result<()> {
-    rt.write_all(b" ")?;
-    rt.print(n)
-}
-
-fn masks(rt: &impl Print, sets: &[u64], count: usize) -> io::Result<()> {
-    for mask in sets.iter().take(count) {
-        number(rt, *mask)?;
-    }
-    Ok(())
+fn bad_line(rt: &impl Print) -> io::Result<()> {
+    rt.write_all(b": bad line\n")
 }
 
 // The rest of the answer's line, and how many words of the sets buffer may have changed.
-fn answer(rt: &impl Print, v: Verdict, sets: &[u64], states: usize) -> io::Result<usize> {
+fn answer(
+    rt: &impl Print,
+    v: Result<(), Refusal>,
+    sets: &[u64],
+    states: usize,
+) -> io::Result<usize> {
     match v {
-        Verdict::Accepted => {
+        Ok(()) => {
             rt.write_all(b": accepted")?;
-            masks(rt, sets, states)?;
+            for mask in sets.iter().take(states) {
+                print!(rt; " {mask}")?;
+            }
             Ok(states)
         }
-        Verdict::Refused(y) => {
-            rt.write_all(b":")?;
-            number(rt, y.number() as u64)?;
-            number(rt, y.place() as u64)?;
+        Err(y) => {
+            print!(rt; ": {} {}", y.number(), y.place())?;
             Ok(0)
         }
     }
@@ -58,78 +44,64 @@ fn answer(rt: &impl Print, v: Verdict, sets: &[u64], states: usize) -> io::Resul
 fn judged(
     rt: &impl Print,
     image: &[u8],
-    length: usize,
     sets: &mut [u64],
     room: usize,
     states: usize,
 ) -> io::Result<()> {
-    if image.len() < length {
-        return rt.write_all(b": bad line\n");
-    }
-    if sets.len() < room {
-        return rt.write_all(b": bad line\n");
-    }
-    let v = ntif::check(&image[..length], &mut sets[..room]);
+    let Some(lent) = sets.get_mut(..room) else {
+        return bad_line(rt);
+    };
+    let v = ntif::check(image, lent);
     let from = answer(rt, v, sets, states)?;
-    if !kept(sets, from) {
+    if sets.iter().skip(from).any(|mask| *mask != OLD) {
         rt.write_all(b" CHANGED")?;
     }
     rt.write_all(b"\n")
 }
 
-// A line's case, its name already written. Both buffers are new for each, so that no case sees another.
-fn case(rt: &impl Print, line: &[u8], from: usize) -> io::Result<()> {
-    let mut image = [0u8; IMAGE];
-    let mut sets = [OLD; SETS];
-    let s = sections(line, from, &mut image);
-    match build(s, &mut image) {
-        Length::Bad => rt.write_all(b": bad line\n"),
-        Length::Bytes(n) => judged(rt, &image, n, &mut sets, s.room as usize, states(s)),
+// The case of a line; it has no negative numbers, no store and no words.
+fn read(sections: &[u8], image: &mut [u8]) -> Option<Case>
+    ensures { IfSome result (λ c. c.image ≤ length image.new) }
+{
+    if sections.contains(&b'-') {
+        return None;
     }
+    read_case(
+        sections,
+        Section::Room,
+        image,
+        &mut [0i32; 0],
+        &mut [0u8; 0],
+    )
 }
 
-// The last place at which a byte stands, or the length.
-fn last(text: &[u8], b: u8) -> usize
-    ensures { result ≤ length text.now }
-{
-    for i in (0..text.len()).rev() {
-        if text[i] == b {
-            return i;
-        }
+// A line's case, its name already written. Both buffers are new for each, so that no case sees another.
+fn case(rt: &impl Print, sections: &[u8]) -> io::Result<()> {
+    let mut image = [0u8; IMAGE];
+    let mut sets = [OLD; SETS];
+    match read(sections, &mut image) {
+        Some(c) => judged(rt, &image[..c.image], &mut sets, c.room as usize, c.states),
+        None => bad_line(rt),
     }
-    text.len()
 }
 
 // Text that is no case is written as it stands, so that the lines of input and output go together.
-fn line(rt: &impl Print, text: &[u8]) -> io::Result<()> {
-    if text.len() == 0 || text[0] == b'#' {
+pub(crate) fn line(rt: &impl Print, text: &[u8]) -> io::Result<()> {
+    if let None | Some(b'#') = text.first() {
         rt.write_all(text)?;
         return rt.write_all(b"\n");
     }
-    let colon = last(text, b':');
-    rt.write_all(&text[..colon])?;
-    case(rt, text, colon + 1)
-}
-
-// Every line; the last one may lack its newline.
-pub(crate) fn lines(rt: &impl Print, text: &[u8]) -> io::Result<()> {
-    let mut at = 0;
-    while at < text.len() {
-        let end = match memchr(b'\n', &text[at..]) {
-            Some(n) => at + n,
-            None => text.len(),
-        };
-        line(rt, &text[at..end])?;
-        at = end + 1;
-    }
-    Ok(())
+    let (name, sections) = text.rsplit_once_str(b":").unwrap_or((text, b""));
+    rt.write_all(name)?;
+    case(rt, sections)
 }
 
 // An image of zeros, with room for all states.
-pub(crate) fn zeros(rt: &impl Print, length: usize) -> io::Result<()> {
+pub(crate) fn zeros(rt: &impl Print, length: usize) -> io::Result<()>
+    requires { length ≤ 65536 }
+{
     let image = [0u8; IMAGE];
     let mut sets = [OLD; SETS];
-    rt.write_all(b"zeros of length")?;
-    number(rt, length as u64)?;
-    judged(rt, &image, length, &mut sets, 64, 0)
+    print!(rt; "zeros of length {length}")?;
+    judged(rt, &image[..length], &mut sets, 64, 0)
 }

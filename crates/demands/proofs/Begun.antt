@@ -1,12 +1,13 @@
 -- The store that an unrefused start gives: typed, and the parameters defined. Assumes nothing.
+use Rattle.std.specs.Prelude.{Ok, Err}
 use mathlib.Core.{Path.◌≡◌, Path.refl, Path.sym, Path.ap, Path.◌∙◌, Logic.⊎_elim}
 use mathlib.Core.{Bool.Bool, Bool.true, Bool.false, Bool.not, Bool.◌||◌, List.List, List.[], List.◌∷◌}
 use Prim.Native.Nat.{ℕ, zero, suc, ◌+◌, ◌*◌, ◌/◌, ◌≤◌, ◌<◌}
 use native.Mathlib.Omega.{arith}
 use lib.{Dec.eqb, Dec.ltb, IntN.ℤ, ListN.length, ListN.get_or, ListN.get_or-eq_default}
 use borrow.Author.Tests.{eq-eqb, ltb-true, ltb-false, not-true}
-use Rattle.model.specs.declared.{Variable.Variable, Verdict.Verdict, Verdict.TheVariants.Accepted, Verdict.TheVariants.Refused, Refusal.TheVariants.StoreLength, Refusal.TheVariants.ParameterCount, Refusal.TheVariants.ParameterValue, Refusal.TheVariants.ConditionFalse}
-use Rattle.model.specs.Answers.{variable, unless, each}
+use Rattle.model.specs.declared.{Variable.Variable, Refusal.TheVariants.StoreLength, Refusal.TheVariants.ParameterCount, Refusal.TheVariants.ParameterValue, Refusal.TheVariants.ConditionFalse}
+use Rattle.model.specs.Answers.{variable, unless, each, Verdict}
 use Rattle.model.specs.Values.{mark, same}
 use Rattle.model.specs.Masks.{digit, Has}
 use Rattle.model.specs.Image.{Tables, Entry, tables_of, type_of}
@@ -62,20 +63,20 @@ parameter-digit (e ∷ es) h (suc v) =
     let q : (e.parameter + 2 * parameters_of es) / 2 ≡ parameters_of es = omega (arith, h 0) in
     rw q (parameter-digit es (λ u. h (suc u)) v)
 
-started_as-accepted : (y : Verdict) (m store : List ℤ) → (started_as y m store).answer ≡ Accepted → y ≡ Accepted
-started_as-accepted Accepted m store e = refl
-started_as-accepted (Refused y) m store e = e
+started_as-accepted : (y : Verdict) (m store : List ℤ) → (started_as y m store).answer ≡ Ok tt → y ≡ Ok tt
+started_as-accepted (Ok _) m store e = refl
+started_as-accepted (Err y) m store e = e
 
-pub start-verdict : (s : List ℕ) (params store : List ℤ) → (start s params store).answer ≡ Accepted → start_verdict s params store ≡ Accepted
+pub start-verdict : (s : List ℕ) (params store : List ℤ) → (start s params store).answer ≡ Ok tt → start_verdict s params store ≡ Ok tt
 unfolding start
 start-verdict s params store e = started_as-accepted (start_verdict s params store) (started (tables_of s) params) store e
 
-pub start-store : (s : List ℕ) (params store : List ℤ) → (start s params store).answer ≡ Accepted → (start s params store).store ≡ started (tables_of s) params
+pub start-store : (s : List ℕ) (params store : List ℤ) → (start s params store).answer ≡ Ok tt → (start s params store).store ≡ started (tables_of s) params
 unfolding start
 start-store s params store e =
     ap (λ (y : Verdict). (started_as y (started (tables_of s) params) store).store) (start-verdict s params store e)
 
-module _ (s : List ℕ) (params store : List ℤ) (ok : start_verdict s params store ≡ Accepted) where
+module _ (s : List ℕ) (params store : List ℤ) (ok : start_verdict s params store ≡ Ok tt) where
   pub values-typed : (v : ℕ) → v < length (tables_of s).variables
       → (not (is_parameter (tables_of s) v) || slot_of_type (tables_of s) (started (tables_of s) params) v) ≡ true
   unfolding start_verdict

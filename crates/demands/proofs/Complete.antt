@@ -1,11 +1,12 @@
 -- 2. Every derivation of Figure 2 from a state's action that reads nothing undefined is a move of step. Assumes nothing.
+use Rattle.std.specs.Prelude.{Ok}
 use mathlib.Core.{Path.◌≡◌, Path.refl, Path.ap, Path.◌∙◌, Bool.Bool, Bool.true, Bool.false, Bool.cond, Bool.◌&&◌, List.List, List.◌∷◌, List.◌++◌}
 use Prim.Native.Nat.{ℕ, ◌+◌, ◌<◌, ◌≤◌}
 use native.Mathlib.Omega.{arith}
 use lib.{Dec.eqb, Dec.ltb, IntN.ℤ, IntN.pos, ListN.length, ListN.get_or, ListN.drop, Signed.mag, Signed.non_neg}
 use borrow.Author.Tests.{ltb-true, lt-ltb, le-leb, eq-eqb}
-use Rattle.model.specs.declared.{State.State, Verdict.Verdict, Verdict.TheVariants.Accepted, Refusal.TheVariants.NoState, Refusal.TheVariants.StoreLength, Refusal.TheVariants.SlotValue, Refusal.TheVariants.LabelShort, Refusal.TheVariants.BudgetOver, Stepped.TheVariants.Moved}
-use Rattle.model.specs.Answers.{variable, unless}
+use Rattle.model.specs.declared.{State.State, Refusal.TheVariants.NoState, Refusal.TheVariants.StoreLength, Refusal.TheVariants.SlotValue, Refusal.TheVariants.LabelShort, Refusal.TheVariants.BudgetOver}
+use Rattle.model.specs.Answers.{variable, unless, Verdict}
 use Rattle.model.specs.Values.{of_size}
 use Rattle.model.specs.Image.{Tables, none, size_of, tables_of}
 use Rattle.model.specs.Trees.{Offer, emit, receive, OfType, Action}
@@ -66,10 +67,10 @@ module _ (x : Tables) (half : x.half ≡ 32768) (few : (t : ℕ) → size_of x t
   words (d_for d) f = words d (tt, (f.0, (f.1, tt)))
 
 -- ---- step
-accepted : (image : List ℕ) (q : State) (store : List ℤ) (budget : ℕ) (label : List ℤ) → image_verdict image ≡ Accepted
+accepted : (image : List ℕ) (q : State) (store : List ℤ) (budget : ℕ) (label : List ℤ) → image_verdict image ≡ Ok tt
     → q.0 < length (tables_of image).states → length store ≡ length (tables_of image).variables
     → ((v : ℕ) → v < length (tables_of image).variables → slot_fits (tables_of image) store v ≡ true) → 10 ≤ length label → budget ≤ 1000000
-    → step_verdict image q store budget label ≡ Accepted
+    → step_verdict image q store budget label ≡ Ok tt
 unfolding step_verdict
 accepted image q store budget label a b c d e f =
     let x = tables_of image in
@@ -95,4 +96,4 @@ transitions-are-moves image b ok q store label said t n inside long slots ten d 
     (accepted image q store (cost d) label ok inside long slots ten cheap)
     ∙ ap (λ (c : ℕ). moved_as (attempt x q.0 store script c) r (cost d) store label) z
     ∙ ap (λ (g : Res). moved_as g r (cost d) store label) run
-    ∙ ap (λ (c : ℕ). record { answer = Moved (record { next = t; words = j; units = c }); store = n; label = label_words said ++ drop 10 label }) (omega arith)
+    ∙ ap (λ (c : ℕ). record { answer = Ok (record { next = t; words = j; units = c }); store = n; label = label_words said ++ drop 10 label }) (omega arith)

@@ -1,13 +1,14 @@
 -- What holds at every state and store reached: the state is one of the image's and is reached, the store is typed, and what is
 -- listed is defined. Assumes nothing.
+use Rattle.std.specs.Prelude.{Ok, Err}
 use mathlib.Core.{Path.◌≡◌, Path.refl, Path.sym, Path.ap, Path.◌∙◌, Logic.⊎_elim}
 use mathlib.Core.{Bool.Bool, Bool.true, Bool.false, Bool.not, List.List}
 use Prim.Native.Nat.{ℕ, ◌<◌}
 use native.Mathlib.Omega.{arith}
 use lib.{Dec.leb, IntN.ℤ, ListN.length, ListN.get_or}
 use borrow.Author.Tests.{not-true}
-use Rattle.model.specs.declared.{State.State, Move.Move, Verdict.Verdict, Verdict.TheVariants.Accepted, Verdict.TheVariants.Refused, Stepped.TheVariants.Moved, Refusal.TheVariants.SetsShort, Refusal.TheVariants.Initialisation, Outcome.Outcome, Outcome.TheVariants.Ends, Outcome.TheVariants.Jumps, Outcome.TheVariants.Stops}
-use Rattle.model.specs.Answers.{state, unless, each}
+use Rattle.model.specs.declared.{State.State, Move.Move, Refusal.TheVariants.SetsShort, Refusal.TheVariants.Initialisation, Outcome.Outcome, Outcome.TheVariants.Ends, Outcome.TheVariants.Jumps, Outcome.TheVariants.Stops}
+use Rattle.model.specs.Answers.{state, unless, each, Verdict}
 use Rattle.model.specs.Image.{Tables, none, tables_of}
 use Rattle.model.specs.Decode.{act}
 use Rattle.model.specs.Masks.{has}
@@ -34,15 +35,15 @@ use Rattle.demands.proofs.Init.{sound}
 
 -- what check accepts
 pub record Checks (s : List ℕ) : Type 0 where
-  pub image : image_verdict s ≡ Accepted
+  pub image : image_verdict s ≡ Ok tt
   pub fine : (q : ℕ) → q < length (tables_of s).states → initialised (tables_of s) (reached_of (tables_of s)) (sets_of (tables_of s)) q ≡ true
   pub spoken : (q : ℕ) → q < length (tables_of s).states → well_spoken (tables_of s) (act (tables_of s) q) ≡ true
 
-checked-accepted : (y : Verdict) (masks sets : List ℕ) → (checked_as y masks sets).answer ≡ Accepted → y ≡ Accepted
-checked-accepted Accepted masks sets e = refl
-checked-accepted (Refused y) masks sets e = e
+checked-accepted : (y : Verdict) (masks sets : List ℕ) → (checked_as y masks sets).answer ≡ Ok tt → y ≡ Ok tt
+checked-accepted (Ok _) masks sets e = refl
+checked-accepted (Err y) masks sets e = e
 
-pub checks : (s sets : List ℕ) → (check s sets).answer ≡ Accepted → Checks s
+pub checks : (s sets : List ℕ) → (check s sets).answer ≡ Ok tt → Checks s
 unfolding check check_verdict flow_verdict
 checks s sets e =
     let x = tables_of s in
@@ -56,7 +57,7 @@ checks s sets e =
     }
 
 -- what a step that moves comes from
-moved_by : (o : Outcome) (s : St) (at budget : ℕ) (store label : List ℤ) (m : Move) → (moved_as (gives o s) at budget store label).answer ≡ Moved m
+moved_by : (o : Outcome) (s : St) (at budget : ℕ) (store label : List ℤ) (m : Move) → (moved_as (gives o s) at budget store label).answer ≡ Ok m
     → (o ≡ Jumps m.next) × ((moved_as (gives o s) at budget store label).store ≡ s.store)
 unfolding moved_as
 moved_by Ends s at budget store label m e = let k : ◌≡◌ {A = ℕ} 0 1 = cc in absurd (omega arith)
@@ -64,24 +65,24 @@ moved_by (Jumps q) s at budget store label m e = (cc, refl)
 moved_by (Stops y) s at budget store label m e = let k : ◌≡◌ {A = ℕ} 0 1 = cc in absurd (omega arith)
 
 pub record Jumped (image : List ℕ) (q : State) (store : List ℤ) (script : List ℕ) (budget : ℕ) (label : List ℤ) (m : Move) : Type 0 where
-  pub verdict : step_verdict image q store budget label ≡ Accepted
+  pub verdict : step_verdict image q store budget label ≡ Ok tt
   pub out : (attempt (tables_of image) q.0 store script budget).out ≡ Jumps m.next
   pub leaves : (step image q store script budget label).store ≡ (attempt (tables_of image) q.0 store script budget).st.store
 
-step_by : (y : Verdict) (d : StepDone) (store label : List ℤ) (m : Move) → (stepped_as y d store label).answer ≡ Moved m
-    → (y ≡ Accepted) × (stepped_as y d store label ≡ d)
-step_by Accepted d store label m e = (refl, refl)
-step_by (Refused y) d store label m e = let k : ◌≡◌ {A = ℕ} 0 1 = cc in absurd (omega arith)
+step_by : (y : Verdict) (d : StepDone) (store label : List ℤ) (m : Move) → (stepped_as y d store label).answer ≡ Ok m
+    → (y ≡ Ok tt) × (stepped_as y d store label ≡ d)
+step_by (Ok _) d store label m e = (refl, refl)
+step_by (Err y) d store label m e = let k : ◌≡◌ {A = ℕ} 0 1 = cc in absurd (omega arith)
 
 pub jumped : (image : List ℕ) (q : State) (store : List ℤ) (script : List ℕ) (budget : ℕ) (label : List ℤ) (m : Move)
-    → (step image q store script budget label).answer ≡ Moved m → Jumped image q store script budget label m
+    → (step image q store script budget label).answer ≡ Ok m → Jumped image q store script budget label m
 unfolding step
 jumped image q store script budget label m e =
     let x = tables_of image in
     let r = attempt x q.0 store script budget in
     let a = get_or x.states q.0 none in
     let p = step_by (step_verdict image q store budget label) (moved_as r a budget store label) store label m e in
-    let g : (moved_as r a budget store label).answer ≡ Moved m = ap (λ (d : StepDone). d.answer) (sym p.1) ∙ e in
+    let g : (moved_as r a budget store label).answer ≡ Ok m = ap (λ (d : StepDone). d.answer) (sym p.1) ∙ e in
     let h = moved_by r.out r.st a budget store label m g in
     record { verdict = p.0; out = h.0; leaves = ap (λ (d : StepDone). d.store) p.1 ∙ h.1 }
 
@@ -91,7 +92,7 @@ pub record Config (image : List ℕ) (q : State) (store : List ℤ) : Type 0 whe
   pub reached : Reached (tables_of image) q.0
   pub held : Held (tables_of image) (get_or (sets_of (tables_of image)) q.0 (top_of (tables_of image))) store
 
-module _ (image sets : List ℕ) (bytes : AreBytes image) (ok : (check image sets).answer ≡ Accepted) where
+module _ (image sets : List ℕ) (bytes : AreBytes image) (ok : (check image sets).answer ≡ Ok tt) where
   x : Tables
   x = tables_of image
 

@@ -1,9 +1,10 @@
 -- Stores in which a set of variables is defined: nothing that reads only these reads an undefined one. Assumes nothing.
+use Rattle.std.specs.Prelude.{Option, Some, None}
 use mathlib.Core.{Path.◌≡◌, Path.refl, Path.subst, Bool.Bool, Bool.true, Bool.false, List.List, List.[], List.◌∷◌, List.map}
 use Prim.Native.Nat.{ℕ, ◌<◌}
 use native.Mathlib.{Omega.arith, Decide.ℕ_discrete}
 use lib.{IntN.ℤ, ListN.length, Seq.get_or-set_same, Seq.get_or-set_other}
-use Rattle.model.specs.declared.{Variable.Variable, Value.Value, Value.TheVariants.Is, Value.TheVariants.Unknown, Tested.Tested, Tested.TheVariants.Holds, Tested.TheVariants.Fails, Tested.TheVariants.Unsure}
+use Rattle.model.specs.declared.{Variable.Variable, Tested.Tested, Tested.TheVariants.Holds, Tested.TheVariants.Fails, Tested.TheVariants.Unsure}
 use Rattle.model.specs.Values.{mark, is_zero, same}
 use Rattle.model.specs.Image.{Tables, type_of}
 use Rattle.model.specs.Masks.{Has, bit, join, without, union}
@@ -78,7 +79,7 @@ module _ (x : Tables) where
       (less-next d b (bit v.0) (map (λ k. bit k.0) vs) t)
 
   -- ---- what reads only variables of b is known
-  pub eval-known : (e : Exp) (b : ℕ) (m : List ℤ) → Sub (use_of_exp e) b → Covers x b m → (z : ℤ) × (eval x e m ≡ Is z)
+  pub eval-known : (e : Exp) (b : ℕ) (m : List ℤ) → Sub (use_of_exp e) b → Covers x b m → (z : ℤ) × (eval x e m ≡ Some z)
   unfolding eval use_of_exp
   eval-known (var v) b m s c = (slot x m v, rw (c.all v (bit_in v.0 b s), eval))
   eval-known (const t z) b m s c = (z, refl)
@@ -88,7 +89,7 @@ module _ (x : Tables) where
       let q = eval-known e b m (sub-right (use_of_exp d) (use_of_exp e) b s) c in
       (apply_binary x.half o p.0 q.0, rw (p.1, q.1, eval))
 
-  pub eval-sure : (e : Exp) (b : ℕ) (m : List ℤ) → Sub (use_of_exp e) b → Covers x b m → eval x e m ≡ Unknown → ⊥
+  pub eval-sure : (e : Exp) (b : ℕ) (m : List ℤ) → Sub (use_of_exp e) b → Covers x b m → eval x e m ≡ None → ⊥
   eval-sure e b m s c q = let p = eval-known e b m s c in let d = p.1 in let k : ◌≡◌ {A = ℕ} 0 1 = cc in omega arith
 
   pub test-sure : (e : Exp) (b : ℕ) (m : List ℤ) → Sub (use_of_exp e) b → Covers x b m → test x e m ≡ Unsure → ⊥
@@ -99,9 +100,9 @@ module _ (x : Tables) where
       pick true d = let k : ◌≡◌ {A = ℕ} 0 1 = cc in omega arith
       pick false d = let k : ◌≡◌ {A = ℕ} 0 1 = cc in omega arith
 
-      go : (y : Value) → (y ≡ Unknown → ⊥) → elim y [ Is a ↦ elim (is_zero a) [ true ↦ Fails | false ↦ Holds ] | Unknown ↦ Unsure ] ≡ Unsure → ⊥
-      go (Is a) f d = pick (is_zero a) d
-      go Unknown f d = f refl
+      go : (y : Option ℤ) → (y ≡ None → ⊥) → elim y [ Some a ↦ elim (is_zero a) [ true ↦ Fails | false ↦ Holds ] | None ↦ Unsure ] ≡ Unsure → ⊥
+      go (Some a) f d = pick (is_zero a) d
+      go None f d = f refl
 
 -- ---- a match is known, and covers what the pattern defines
 abbrev pub Suits : Tables → ℕ → Match → Type 0

@@ -1,10 +1,11 @@
 -- Demand 3: what a step may give at every state and store reached. Assumes nothing.
+use Rattle.std.specs.Prelude.{Ok}
 use mathlib.Core.{Logic.⊎_elim, Path.◌≡◌, Path.refl, Path.sym, Path.◌∙◌, Path.subst, Bool.Bool, Bool.true, Bool.false, List.List, List.[], List.◌∷◌}
 use Prim.Native.Nat.{ℕ, zero, suc, ◌+◌, ◌-◌, ◌≤◌}
 use native.Mathlib.{Omega.arith, Nat.eq-or-lt_of_le}
 use lib.{Dec.eqb, Dec.leb, Dec.ltb, IntN.ℤ, ListN.length, ListN.get_or}
 use borrow.Author.Tests.{eq-eqb, lt-ltb}
-use Rattle.model.specs.declared.{State.State, Verdict.TheVariants.Accepted, Refusal.Refusal, Refusal.TheVariants.NoState, Refusal.TheVariants.StoreLength, Refusal.TheVariants.SlotValue, Refusal.TheVariants.LabelShort, Refusal.TheVariants.BudgetOver, Outcome.Outcome, Outcome.TheVariants.Ends, Outcome.TheVariants.Jumps, Outcome.TheVariants.Stops}
+use Rattle.model.specs.declared.{State.State, Refusal.Refusal, Refusal.TheVariants.NoState, Refusal.TheVariants.StoreLength, Refusal.TheVariants.SlotValue, Refusal.TheVariants.LabelShort, Refusal.TheVariants.BudgetOver, Outcome.Outcome, Outcome.TheVariants.Ends, Outcome.TheVariants.Jumps, Outcome.TheVariants.Stops}
 use Rattle.model.specs.Limits.{limits}
 use Rattle.model.specs.Answers.{variable, number, after, unless, each}
 use Rattle.model.specs.Image.{none, tables_of}
@@ -57,7 +58,7 @@ pub record Attempted (o : Outcome) (s : St) : Type 0 where
   pub ends : o ≡ Ends → spoken s.label ≡ false
   pub stops : (y : Refusal) → o ≡ Stops y → Stopped (number y) (spoken s.label) × (number y ≡ 22 → ⊥)
 
-module _ (image sets : List ℕ) (bytes : AreBytes image) (ok : (check image sets).answer ≡ Accepted) where
+module _ (image sets : List ℕ) (bytes : AreBytes image) (ok : (check image sets).answer ≡ Ok tt) where
   attempted : (q : State) (store : List ℤ) (script : List ℕ) (budget : ℕ) → Config image q store
       → Attempted (attempt (tables_of image) q.0 store script budget).out (attempt (tables_of image) q.0 store script budget).st
   unfolding attempt

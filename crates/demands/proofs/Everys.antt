@@ -1,10 +1,11 @@
 -- `Every` and the test of each element; a refused row is the lowest that the judgement refuses. Assumes nothing.
+use Rattle.std.specs.Prelude.{Err}
 use mathlib.Core.{Path.◌≡◌, Path.refl, Path.sym, Path.◌∙◌, Bool.Bool, Bool.true, Bool.false, Bool.◌&&◌, Bool.false≢true, List.List, List.[], List.◌∷◌, List.map}
 use Prim.Native.Nat.{ℕ, zero, suc, ◌<◌, ◌≤◌}
 use native.Mathlib.Omega.{arith}
 use lib.Dec.{leb}
 use borrow.Author.Tests.{leb-false}
-use Rattle.model.specs.declared.{Refusal.Refusal, Verdict.TheVariants.Refused}
+use Rattle.model.specs.declared.{Refusal.Refusal}
 use Rattle.model.specs.Lists.{all}
 use Rattle.model.specs.Answers.{lowest, each, unless}
 use Rattle.model.proofs.Rows.{both_true}
@@ -48,11 +49,11 @@ pub record Refuses (p : ℕ → Bool) (n : ℕ) (f : ℕ → Refusal) (y : Refus
   pub below : (i : ℕ) → i < k → p i ≡ true
   pub fails : p k ≡ false
 
-pub each-refused : (p : ℕ → Bool) (n : ℕ) (f : ℕ → Refusal) (y : Refusal) → each p n f ≡ Refused y → Refuses p n f y
+pub each-refused : (p : ℕ → Bool) (n : ℕ) (f : ℕ → Refusal) (y : Refusal) → each p n f ≡ Err y → Refuses p n f y
 unfolding each
 each-refused p n f y e = go (leb n (lowest p n)) refl e
   where
-    go : (b : Bool) → leb n (lowest p n) ≡ b → unless b (f (lowest p n)) ≡ Refused y → Refuses p n f y
+    go : (b : Bool) → leb n (lowest p n) ≡ b → unless b (f (lowest p n)) ≡ Err y → Refuses p n f y
     go true e q = let z : ◌≡◌ {A = ℕ} 0 1 = cc in absurd (omega arith)
     go false e q =
         let l = leb-false n (lowest p n) e in
@@ -75,7 +76,7 @@ module _ (p : ℕ → Bool) (P : ℕ → Type 0) (n : ℕ) (agree : (r : ℕ) �
   is_false true f = absurd (f refl)
   is_false false f = refl
 
-  pub lowest-refused : (f : ℕ → Refusal) (r : ℕ) → Lowest P n r → each p n f ≡ Refused (f r)
+  pub lowest-refused : (f : ℕ → Refusal) (r : ℕ) → Lowest P n r → each p n f ≡ Err (f r)
   lowest-refused f r l =
       each-refuses p n f r (lowest-full p r (λ i h. (agree i (omega (arith, l.row)) (λ j b. l.below j (omega arith))).on (l.below i h)))
       l.row (is_false (p r) (λ e. l.fails ((agree r l.row l.below).back e)))

@@ -1,10 +1,11 @@
 -- Small laws of Figure 2: its matching and the one that is run, its sums of labels, its tolls. Assumes nothing.
+use Rattle.std.specs.Prelude.{Option, Some, None}
 use mathlib.Core.{Path.◌≡◌, Path.refl, Path.sym, Path.subst, Bool.Bool, Bool.true, Bool.false, List.List}
 use Prim.Native.Nat.{ℕ}
 use native.Mathlib.Omega.{arith}
 use lib.IntN.{ℤ}
 use borrow.Author.Tests.{ne_eqb}
-use Rattle.model.specs.declared.{State.State, Tested.Tested, Tested.TheVariants.Holds, Tested.TheVariants.Fails, Tested.TheVariants.Unsure, Value.Value, Value.TheVariants.Is, Value.TheVariants.Unknown}
+use Rattle.model.specs.declared.{State.State, Tested.Tested, Tested.TheVariants.Holds, Tested.TheVariants.Fails, Tested.TheVariants.Unsure}
 use Rattle.model.specs.Values.{same}
 use Rattle.model.specs.Image.{Tables, none}
 use Rattle.model.specs.Trees.{Exp, Pat, any, bind, equals, guarded, emit, Gets, at, assign}
@@ -77,27 +78,27 @@ module _ (x : Tables) (p : Pat) (z : ℤ) (m : List ℤ) where
   found-match n e = agree-matched (agree x p z m) e
 
 -- an offer of a value accepts the value
-pub emits : (x : Tables) (e : Exp) (z : ℤ) (m : List ℤ) → eval x e m ≡ Is z → accept x z m (emit e) ≡ found m
+pub emits : (x : Tables) (e : Exp) (z : ℤ) (m : List ℤ) → eval x e m ≡ Some z → accept x z m (emit e) ≡ found m
 unfolding accept
 emits x e z m q = rw (q, accept, same_refl z)
 
 pub record Emitted (x : Tables) (e : Exp) (z : ℤ) (m n : List ℤ) : Type 0 where
-  pub value : eval x e m ≡ Is z
+  pub value : eval x e m ≡ Some z
   pub store : m ≡ n
 
 pub emitted : (x : Tables) (e : Exp) (z : ℤ) (m n : List ℤ) → accept x z m (emit e) ≡ found n → Emitted x e z m n
 unfolding accept
 emitted x e z m n q = go (eval x e m) refl q
   where
-    last : (a : ℤ) (b : Bool) → eval x e m ≡ Is a → same a z ≡ b → ◌≡◌ {A = Found} (elim b [ true ↦ found m | false ↦ fail ]) (found n)
+    last : (a : ℤ) (b : Bool) → eval x e m ≡ Some a → same a z ≡ b → ◌≡◌ {A = Found} (elim b [ true ↦ found m | false ↦ fail ]) (found n)
         → Emitted x e z m n
     last a true h s r = record { value = rw (← (same-eq a z s)) h; store = cc }
     last a false h s r = let c : ◌≡◌ {A = ℕ} 0 1 = cc in absurd (omega arith)
 
-    go : (y : Value) → eval x e m ≡ y
-        → ◌≡◌ {A = Found} (elim y [ Is a ↦ elim (same a z) [ true ↦ found m | false ↦ fail ] | Unknown ↦ fail ]) (found n) → Emitted x e z m n
-    go (Is a) h r = last a (same a z) h refl r
-    go Unknown h r = let c : ◌≡◌ {A = ℕ} 0 1 = cc in absurd (omega arith)
+    go : (y : Option ℤ) → eval x e m ≡ y
+        → ◌≡◌ {A = Found} (elim y [ Some a ↦ elim (same a z) [ true ↦ found m | false ↦ fail ] | None ↦ fail ]) (found n) → Emitted x e z m n
+    go (Some a) h r = last a (same a z) h refl r
+    go None h r = let c : ◌≡◌ {A = ℕ} 0 1 = cc in absurd (omega arith)
 
 -- ---- sums of labels
 pub sum-none : (l : Label) → Sum l ε l

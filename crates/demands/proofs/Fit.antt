@@ -1,11 +1,11 @@
 -- Trees whose loops are at rows and whose selects have at most 64 branches: those of the states of an image that passes 1 to 9.
 -- Assumes nothing.
+use Rattle.std.specs.Prelude.{Ok}
 use mathlib.Core.{Path.◌≡◌, Path.sym, Path.subst, Logic.inl, Logic.inr, Logic.⊎_elim, Bool.true, List.List, List.[], List.◌∷◌}
 use Prim.Native.Nat.{ℕ, zero, suc, ◌-◌, ◌%◌, ◌≤◌, ◌<◌}
 use native.Mathlib.Omega.{arith}
 use lib.{Dec.eqb, Dec.leb, Dec.ltb, IntN.ℤ, ListN.length, ListN.get_or}
 use borrow.Author.Tests.{leb-true}
-use Rattle.model.specs.declared.Verdict.TheVariants.{Accepted}
 use Rattle.model.specs.Image.{Tables, none, fields_of, trailer_of, rows_end, row_count, table_fits, starts_fit, tables_of}
 use Rattle.model.specs.Rows.{action, branch, arm, ActionRow, is_null, is_assign, is_choose, is_reset, is_communicate, is_to, is_then, is_select, is_case, is_while, is_for, an_action, means_at, is_kind, is_root}
 use Rattle.model.specs.Trees.{Action, at, Act, null, assign, choose, reset, communicate, to, then, select, case, while, for, Branches, no_branch, branch as a_branch, Arms, no_arm, arm as an_arm}
@@ -128,5 +128,5 @@ few-rows s e =
     let h = (both_true (eqb ((rows_end i - i.rows) % 8) 0) _ g).1 in
     rw length-table (leb-true (row_count i) 2048 (both_true (leb 2 (row_count i)) _ h).1)
 
-pub fit-image : (s : List ℕ) → Whole (tables_of s) → image_verdict s ≡ Accepted → (q : ℕ) → q < length (tables_of s).states → Fit (act (tables_of s) q)
+pub fit-image : (s : List ℕ) → Whole (tables_of s) → image_verdict s ≡ Ok tt → (q : ℕ) → q < length (tables_of s).states → Fit (act (tables_of s) q)
 fit-image s w e q h = fit-state (tables_of s) w (few-rows s (passed s e).starts) q h

@@ -1,9 +1,10 @@
 -- What is shown of a run, by how it ends: one logic for every analysis. What is shown may speak of the store and the label, not
 -- of the words read or the units left. Assumes nothing.
+use Rattle.std.specs.Prelude.{Option, Some, None}
 use mathlib.Core.{Path.◌≡◌, Path.refl, Path.subst, Bool.true, List.List}
 use Prim.Native.Nat.{ℕ}
 use lib.IntN.{ℤ}
-use Rattle.model.specs.declared.{State.State, Value.Value, Value.TheVariants.Is, Value.TheVariants.Unknown, Tested.Tested, Tested.TheVariants.Holds, Tested.TheVariants.Fails, Tested.TheVariants.Unsure, Refusal.Refusal, Refusal.TheVariants.Undefined, Refusal.TheVariants.ScriptEnded, Refusal.TheVariants.WordOutOfRange, Refusal.TheVariants.BudgetSpent, Outcome.Outcome, Outcome.TheVariants.Ends, Outcome.TheVariants.Jumps, Outcome.TheVariants.Stops}
+use Rattle.model.specs.declared.{State.State, Tested.Tested, Tested.TheVariants.Holds, Tested.TheVariants.Fails, Tested.TheVariants.Unsure, Refusal.Refusal, Refusal.TheVariants.Undefined, Refusal.TheVariants.ScriptEnded, Refusal.TheVariants.WordOutOfRange, Refusal.TheVariants.BudgetSpent, Outcome.Outcome, Outcome.TheVariants.Ends, Outcome.TheVariants.Jumps, Outcome.TheVariants.Stops}
 use Rattle.model.specs.Answers.{row}
 use Rattle.model.specs.Values.{of_size}
 use Rattle.model.specs.Image.{Tables, size_of}
@@ -85,7 +86,7 @@ module _ {c : Post} where
       reading_of-rule (Shown c) x t script r s k (λ l f. h _ _ f (record { store = refl; label = refl }))
       (λ l f. record { says = o _ (record { store = refl; label = refl }) }) (λ l. record { says = e })
 
-  pub value : (y : Value) (r : ℕ) (s : St) (k : ℤ → Res) → (y ≡ Unknown → c.stops (Undefined (row r)) s) → ((z : ℤ) → y ≡ Is z → Shown c (k z))
+  pub value : (y : Option ℤ) (r : ℕ) (s : St) (k : ℤ → Res) → (y ≡ None → c.stops (Undefined (row r)) s) → ((z : ℤ) → y ≡ Some z → Shown c (k z))
       → Shown c (valued y r s k)
   value y r s k u h = valued-rule (Shown c) y r s k h (λ e. record { says = u e })
 

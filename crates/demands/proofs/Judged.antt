@@ -1,11 +1,12 @@
 -- 8 and 9 are the report's judgements: accepted images, and the place of each refusal. Assumes nothing.
+use Rattle.std.specs.Prelude.{Ok, Err}
 use mathlib.Core.{Path.◌≡◌, Path.refl, Path.sym, Path.ap, Path.◌∙◌, Path.subst, Logic.◌⊎◌, Logic.inl, Logic.inr, Bool.Bool, Bool.true, Bool.false, List.List}
 use Prim.Native.Nat.{ℕ, ◌+◌, ◌-◌, ◌*◌, ◌/◌, ◌%◌, ◌≤◌, ◌<◌}
 use native.Mathlib.Omega.{arith}
 use lib.{Dec.leb, Dec.eqb, Dec.ltb, ListN.length, ListN.get_or}
 use borrow.Author.Tests.{leb-true, ltb-true}
-use Rattle.model.specs.declared.{Refusal.Refusal, Refusal.TheVariants.ImageLength, Refusal.TheVariants.MarkOrLength, Refusal.TheVariants.Starts, Refusal.TheVariants.Entries, Refusal.TheVariants.Malformed, Refusal.TheVariants.NoAction, Refusal.TheVariants.NoCondition, Refusal.TheVariants.Typing, Refusal.TheVariants.Binding, Verdict.Verdict, Verdict.TheVariants.Accepted, Verdict.TheVariants.Refused}
-use Rattle.model.specs.Answers.{state, row, number, place, after, unless, each}
+use Rattle.model.specs.declared.{Refusal.Refusal, Refusal.TheVariants.ImageLength, Refusal.TheVariants.MarkOrLength, Refusal.TheVariants.Starts, Refusal.TheVariants.Entries, Refusal.TheVariants.Malformed, Refusal.TheVariants.NoAction, Refusal.TheVariants.NoCondition, Refusal.TheVariants.Typing, Refusal.TheVariants.Binding}
+use Rattle.model.specs.Answers.{state, row, number, place, after, unless, each, Verdict}
 use Rattle.model.specs.Image.{Tables, none, length_fits, marked, trailer_of, starts_fit, table_fits, rows_end, row_count, fields_at, tables_of, entries_right}
 use Rattle.model.specs.Rows.{action, expression, is_kind, is_root, formed, named_once, Means}
 use Rattle.model.specs.Typing.{typed}
@@ -123,14 +124,14 @@ module _ (x : Tables) (l : Laid x) where
   abbrev nine : Verdict
   nine = each (bound x) (length x.rows) (λ r. Binding (row r))
 
-  eight-passes : Iff (eight ≡ Accepted) (AutomatonTyped x)
+  eight-passes : Iff (eight ≡ Ok tt) (AutomatonTyped x)
   eight-passes = record { on = λ e. all_typed.on (each_all (typed x) _ _ e); back = λ w. each-accepts (typed x) _ _ (all_typed.back w) }
 
-  nine-passes : Iff (nine ≡ Accepted) (AutomatonBound x)
+  nine-passes : Iff (nine ≡ Ok tt) (AutomatonBound x)
   nine-passes = record { on = λ e. all-bound.on (each_all (bound x) _ _ e); back = λ w. each-accepts (bound x) _ _ (all-bound.back w) }
 
   -- 8 and 9 pass exactly if the automaton is well typed and well bound
-  pub rules-accept : Iff (rules_verdict x ≡ Accepted) (AutomatonTyped x × AutomatonBound x)
+  pub rules-accept : Iff (rules_verdict x ≡ Ok tt) (AutomatonTyped x × AutomatonBound x)
   unfolding rules_verdict
   rules-accept = record {
     on = λ e. let p = after_both eight nine e in (eight-passes.on p.0, nine-passes.on p.1);
@@ -138,27 +139,27 @@ module _ (x : Tables) (l : Laid x) where
   }
 
 -- ---- which stage refuses
-after-split : (v w : Verdict) (y : Refusal) → after v w ≡ Refused y → (v ≡ Refused y) ⊎ ((v ≡ Accepted) × (w ≡ Refused y))
+after-split : (v w : Verdict) (y : Refusal) → after v w ≡ Err y → (v ≡ Err y) ⊎ ((v ≡ Ok tt) × (w ≡ Err y))
 unfolding after
-after-split Accepted w y e = inr (refl, e)
-after-split (Refused z) w y e = inl e
+after-split (Ok _) w y e = inr (refl, e)
+after-split (Err z) w y e = inl e
 
 -- the first stage refuses with another number
-past : (v w : Verdict) (y : Refusal) → (v ≡ Refused y → ⊥) → after v w ≡ Refused y → (v ≡ Accepted) × (w ≡ Refused y)
+past : (v w : Verdict) (y : Refusal) → (v ≡ Err y → ⊥) → after v w ≡ Err y → (v ≡ Ok tt) × (w ≡ Err y)
 past v w y f e = go (after-split v w y e)
   where
-    go : (v ≡ Refused y) ⊎ ((v ≡ Accepted) × (w ≡ Refused y)) → (v ≡ Accepted) × (w ≡ Refused y)
+    go : (v ≡ Err y) ⊎ ((v ≡ Ok tt) × (w ≡ Err y)) → (v ≡ Ok tt) × (w ≡ Err y)
     go (inl p) = absurd (f p)
     go (inr p) = p
 
-not-unless : (b : Bool) (z y : Refusal) → (number y ≡ number z → ⊥) → unless b z ≡ Refused y → ⊥
+not-unless : (b : Bool) (z y : Refusal) → (number y ≡ number z → ⊥) → unless b z ≡ Err y → ⊥
 not-unless true z y f e = let k : ◌≡◌ {A = ℕ} 0 1 = cc in omega arith
 not-unless false z y f e = let k : y ≡ z = cc in f (ap number k)
 
-not-each : (p : ℕ → Bool) (n : ℕ) (g : ℕ → Refusal) (y : Refusal) → ((k : ℕ) → number y ≡ number (g k) → ⊥) → each p n g ≡ Refused y → ⊥
+not-each : (p : ℕ → Bool) (n : ℕ) (g : ℕ → Refusal) (y : Refusal) → ((k : ℕ) → number y ≡ number (g k) → ⊥) → each p n g ≡ Err y → ⊥
 not-each p n g y f e = let q = each-refused p n g y e in f q.k (ap number q.is)
 
-not-rows : (x : Tables) (y : Refusal) → 7 < number y → rows_verdict x ≡ Refused y → ⊥
+not-rows : (x : Tables) (y : Refusal) → 7 < number y → rows_verdict x ≡ Err y → ⊥
 unfolding rows_verdict
 not-rows x y h e =
     let a = past _ _ y (not-each (formed x) _ _ y (λ k q. omega arith)) e in
@@ -167,7 +168,7 @@ not-rows x y h e =
     not-each (named_once x) _ _ y (λ k q. omega arith) c.1
 
 -- a refusal over 7 is one of the rules
-late : (s : List ℕ) (y : Refusal) → 7 < number y → image_verdict s ≡ Refused y → FreeToSeven s × (rules_verdict (tables_of s) ≡ Refused y)
+late : (s : List ℕ) (y : Refusal) → 7 < number y → image_verdict s ≡ Err y → FreeToSeven s × (rules_verdict (tables_of s) ≡ Err y)
 unfolding image_verdict
 late s y h e =
     let x = tables_of s in
@@ -191,7 +192,7 @@ rest : (s : List ℕ) → FreeToSeven s → image_verdict s ≡ rules_verdict (t
 unfolding image_verdict after
 rest s w = rw (w.long, w.marked, w.starts, w.entries) (after-accepted (rows_verdict (tables_of s)) (rules_verdict (tables_of s)) w.rows)
 
-free-to-seven : (s : List ℕ) → image_verdict s ≡ Accepted → FreeToSeven s
+free-to-seven : (s : List ℕ) → image_verdict s ≡ Ok tt → FreeToSeven s
 unfolding image_verdict
 free-to-seven s e =
     let x = tables_of s in
@@ -222,33 +223,33 @@ module _ (x : Tables) (l : Laid x) (r : ℕ) where
   abbrev n : ℕ
   n = length x.rows
 
-  eight-lowest : Lowest (RowTyped x) n r → eight x l ≡ Refused (Typing (row r))
+  eight-lowest : Lowest (RowTyped x) n r → eight x l ≡ Err (Typing (row r))
   eight-lowest w = lowest-refused (typed x) (RowTyped x) n (typing-agrees x l) (λ k. Typing (row k)) r w
 
-  eight-refused : eight x l ≡ Refused (Typing (row r)) → Lowest (RowTyped x) n r
+  eight-refused : eight x l ≡ Err (Typing (row r)) → Lowest (RowTyped x) n r
   eight-refused e =
       let q = each-refused (typed x) n (λ k. Typing (row k)) _ e in
       let k : r ≡ q.k = ap place q.is in
       subst (Lowest (RowTyped x) n) (sym k) (refused-lowest (typed x) (RowTyped x) n (typing-agrees x l) q.k q.row q.below q.fails)
 
-  nine-lowest : Lowest (RowBound x) n r → nine x l ≡ Refused (Binding (row r))
+  nine-lowest : Lowest (RowBound x) n r → nine x l ≡ Err (Binding (row r))
   nine-lowest w = lowest-refused (bound x) (RowBound x) n (binding-agrees x l) (λ k. Binding (row k)) r w
 
-  nine-refused : nine x l ≡ Refused (Binding (row r)) → Lowest (RowBound x) n r
+  nine-refused : nine x l ≡ Err (Binding (row r)) → Lowest (RowBound x) n r
   nine-refused e =
       let q = each-refused (bound x) n (λ k. Binding (row k)) _ e in
       let k : r ≡ q.k = ap place q.is in
       subst (Lowest (RowBound x) n) (sym k) (refused-lowest (bound x) (RowBound x) n (binding-agrees x l) q.k q.row q.below q.fails)
 
-  pub typing-place : Iff (rules_verdict x ≡ Refused (Typing (row r))) (Lowest (RowTyped x) n r)
+  pub typing-place : Iff (rules_verdict x ≡ Err (Typing (row r))) (Lowest (RowTyped x) n r)
   unfolding rules_verdict
   typing-place = record { on = λ e. go (after-split (eight x l) (nine x l) _ e); back = λ w. after-refused (eight x l) (nine x l) _ (eight-lowest w) }
     where
-      go : (eight x l ≡ Refused (Typing (row r))) ⊎ ((eight x l ≡ Accepted) × (nine x l ≡ Refused (Typing (row r)))) → Lowest (RowTyped x) n r
+      go : (eight x l ≡ Err (Typing (row r))) ⊎ ((eight x l ≡ Ok tt) × (nine x l ≡ Err (Typing (row r)))) → Lowest (RowTyped x) n r
       go (inl p) = eight-refused p
       go (inr p) = absurd (not-each (bound x) n (λ k. Binding (row k)) (Typing (row r)) (λ k q. omega arith) p.1)
 
-  pub binding-place : Iff (rules_verdict x ≡ Refused (Binding (row r))) (AutomatonTyped x × Lowest (RowBound x) n r)
+  pub binding-place : Iff (rules_verdict x ≡ Err (Binding (row r))) (AutomatonTyped x × Lowest (RowBound x) n r)
   unfolding rules_verdict
   binding-place = record {
     on = λ e.

@@ -1,10 +1,11 @@
 -- Statement 4: the sets are the largest that fit, check gives them, and the reached states are found. Assumes nothing.
+use Rattle.std.specs.Prelude.{Ok, Err}
+use Rattle.model.specs.Answers.{Verdict}
 use mathlib.Core.{Path.◌≡◌, Path.refl, Path.ap, Path.◌∙◌, Bool.true, List.List, List.[], List.◌∷◌, List.◌++◌}
 use Prim.Native.Nat.{ℕ, zero, suc, ◌-◌, ◌%◌, ◌^◌, ◌<◌}
 use native.Mathlib.{Omega.arith, Nat.pow-suc}
 use lib.{Dec.eqb, Dec.leb, Dec.ltb, ListN.length, ListN.get_or, ListN.drop, ListN.get_or-append}
 use borrow.Author.Tests.{leb-true}
-use Rattle.model.specs.declared.{Verdict.Verdict, Verdict.TheVariants.Accepted, Verdict.TheVariants.Refused}
 use Rattle.model.specs.Limits.{limits}
 use Rattle.model.specs.Image.{Tables, Entry, trailer_of, state_count, table_fits, starts_fit, tables_of, sizes_fit, entries_fit, entries_right}
 use Rattle.model.specs.Binding.{parameters_of}
@@ -52,24 +53,24 @@ parameters-in x f =
     sub-full (length x.variables) (parameters_of x.variables)
     (parameters-lt (length x.sizes) x.variables (both_true (sizes_fit x.sizes) _ f.entries).1)
 
-pub leads-of : (s : List ℕ) → AreBytes s → image_verdict s ≡ Accepted → Leads (tables_of s)
+pub leads-of : (s : List ℕ) → AreBytes s → image_verdict s ≡ Ok tt → Leads (tables_of s)
 leads-of s b e = record {
   some = some-state s (passed s e).starts;
   inner = λ q l. targets-lt (tables_of s) (act (tables_of s) q) (good-state (tables_of s) (whole s b e) q l);
 }
 
 -- ---- what check leaves in the buffer
-checked-sets : (v : Verdict) (masks sets : List ℕ) → (checked_as v masks sets).answer ≡ Accepted
+checked-sets : (v : Verdict) (masks sets : List ℕ) → (checked_as v masks sets).answer ≡ Ok tt
     → (checked_as v masks sets).sets ≡ masks ++ drop (length masks) sets
-checked-sets Accepted masks sets e = refl
-checked-sets (Refused y) masks sets e = cc
+checked-sets (Ok _) masks sets e = refl
+checked-sets (Err y) masks sets e = cc
 
 any-default : (l : List ℕ) (i d e : ℕ) → i < length l → get_or l i d ≡ get_or l i e
 any-default [] i d e h = absurd (omega arith)
 any-default (n ∷ l) zero d e h = refl
 any-default (n ∷ l) (suc i) d e h = any-default l i d e (omega arith)
 
-given-at : (image sets : List ℕ) → (check image sets).answer ≡ Accepted → (s d : ℕ) → s < length (sets_of (tables_of image))
+given-at : (image sets : List ℕ) → (check image sets).answer ≡ Ok tt → (s d : ℕ) → s < length (sets_of (tables_of image))
     → get_or (check image sets).sets s 0 ≡ get_or (sets_of (tables_of image)) s d
 unfolding check
 given-at image sets e s d l =

@@ -1,9 +1,10 @@
 -- What is shown of a run that ends or jumps, and that the runs of actions that hold none are derivations of Figure 2. Assumes nothing.
+use Rattle.std.specs.Prelude.{Some}
 use mathlib.Core.{Path.◌≡◌, Path.refl, Path.subst, Bool.false, List.List, List.[], List.◌∷◌, List.◌++◌, List.append_assoc, List.append-nil}
 use Prim.Native.Nat.{ℕ, ◌+◌, ◌/◌, ◌<◌}
 use native.Mathlib.Omega.{arith}
 use lib.{IntN.ℤ, ListN.length}
-use Rattle.model.specs.declared.{Refusal.Refusal, Gate.Gate, State.State, Tested.TheVariants.Holds, Value.TheVariants.Is, Outcome.TheVariants.Ends, Outcome.TheVariants.Jumps, Outcome.TheVariants.Stops}
+use Rattle.model.specs.declared.{Refusal.Refusal, Gate.Gate, State.State, Tested.TheVariants.Holds, Outcome.TheVariants.Ends, Outcome.TheVariants.Jumps, Outcome.TheVariants.Stops}
 use Rattle.model.specs.Bytes.{word_at}
 use Rattle.model.specs.Image.{Tables, none}
 use Rattle.model.specs.Trees.{Exp, Pat, Offer, emit, receive, Gets, OfType, Action, at, Act, assign, choose, communicate, then, while}
@@ -89,7 +90,7 @@ module _ (x : Tables) (script : List ℕ) where
   data Put (is : List Gets) (m : List ℤ) (s : St) : Next → St → Type 0 where
     put : {zs : List ℤ} → Evals x s.store is zs → Put is m s ended (stored (update m (getters is) zs) s)
 
-  one-put : {i : Gets} {is : List Gets} {m : List ℤ} {z : ℤ} {s u : St} {o : Next} → eval x i.e s.store ≡ Is z → Put is (store m i.v z) s o u
+  one-put : {i : Gets} {is : List Gets} {m : List ℤ} {z : ℤ} {s u : St} {o : Next} → eval x i.e s.store ≡ Some z → Put is (store m i.v z) s o u
       → Put (i ∷ is) m s o u
   unfolding update
   one-put e (put es) = put (one_more e es)
@@ -135,7 +136,7 @@ module _ (x : Tables) (script : List ℕ) where
     spoke : {zs n : List ℤ} (j : ℕ) → Accepts x os zs s.store n → Reads script s.words (received os zs) j
         → Spoke g os vs s ended (made n j s.left (on g (vs ++ zs)))
 
-  one-emitted : {g : Gate} {e : Exp} {os : List Offer} {vs : List ℤ} {s u : St} {o : Next} {z : ℤ} → eval x e s.store ≡ Is z
+  one-emitted : {g : Gate} {e : Exp} {os : List Offer} {vs : List ℤ} {s u : St} {o : Next} {z : ℤ} → eval x e s.store ≡ Some z
       → Spoke g os (vs ++ (z ∷ [])) s o u → Spoke g (emit e ∷ os) vs s o u
   unfolding received
   one-emitted {e = e} {vs = vs} {s = s} {z = z} h (spoke {zs} j a p) =

@@ -1,12 +1,13 @@
 -- The statements of specs/Refusals: step refuses as the rules do, a run goes one way, and which answers are final. Assumes nothing.
+use Rattle.std.specs.Prelude.{Ok, Err}
 use mathlib.Core.{Path.◌≡◌, Path.refl, Path.sym, Path.ap, Path.◌∙◌, Path.subst, Bool.Bool, List.List, List.[], List.◌++◌}
 use Prim.Native.Nat.{ℕ, ◌+◌, ◌-◌, ◌/◌, ◌≤◌}
 use native.Mathlib.Omega.{arith}
 use lib.{Dec.ltb, Dec.leb, Dec.eqb, IntN.ℤ, ListN.length, ListN.get_or, ListN.drop}
 use borrow.Author.Tests.{ltb-true, le-leb}
-use Rattle.model.specs.declared.{State.State, Row.Row, Refusal.Refusal, Refusal.TheVariants.NoState, Refusal.TheVariants.StoreLength, Refusal.TheVariants.SlotValue, Refusal.TheVariants.LabelShort, Refusal.TheVariants.BudgetOver, Refusal.TheVariants.ScriptEnded, Refusal.TheVariants.BudgetSpent, Outcome.Outcome, Outcome.TheVariants.Ends, Outcome.TheVariants.Jumps, Outcome.TheVariants.Stops, Verdict.Verdict, Verdict.TheVariants.Accepted, Verdict.TheVariants.Refused, Stepped.TheVariants.Moved, Stepped.TheVariants.NotMoved}
+use Rattle.model.specs.declared.{State.State, Row.Row, Refusal.Refusal, Refusal.TheVariants.NoState, Refusal.TheVariants.StoreLength, Refusal.TheVariants.SlotValue, Refusal.TheVariants.LabelShort, Refusal.TheVariants.BudgetOver, Refusal.TheVariants.ScriptEnded, Refusal.TheVariants.BudgetSpent, Outcome.Outcome, Outcome.TheVariants.Ends, Outcome.TheVariants.Jumps, Outcome.TheVariants.Stops}
 use Rattle.model.specs.Limits.{limits}
-use Rattle.model.specs.Answers.{variable, after, unless, each}
+use Rattle.model.specs.Answers.{variable, after, unless, each, Verdict}
 use Rattle.model.specs.Image.{Tables, none, tables_of}
 use Rattle.model.specs.Decode.{act}
 use Rattle.model.specs.Trees.{Action}
@@ -100,7 +101,7 @@ module _ (x : Tables) (script bytes : List ℕ) (a : Action) (f : Fit a) (store 
 
 -- ---- of step
 module _ (image : List ℕ) (q : State) (store : List ℤ) (budget : ℕ) (label : List ℤ) where
-  fit : AreBytes image → step_verdict image q store budget label ≡ Accepted → Fit (act (tables_of image) q.0)
+  fit : AreBytes image → step_verdict image q store budget label ≡ Ok tt → Fit (act (tables_of image) q.0)
   unfolding step_verdict
   fit b v =
       let p = after_both (image_verdict image) _ v in
@@ -115,7 +116,7 @@ module _ (x : Tables) (q : ℕ) (s : Conf) (budget : ℕ) (store label : List �
 
   refused-at : (o : Outcome) (u : St) (y : Refusal) → (o ≡ Ends → (t : Conf) × ((t.label ≡ u.label) × Went x (act x q) s ended t))
       → ((z : Refusal) → o ≡ Stops z → Halts x (entering (act x q)) s z)
-      → (moved_as (gives o u) home budget store label).answer ≡ NotMoved y → Refuses x q s y
+      → (moved_as (gives o u) home budget store label).answer ≡ Err y → Refuses x q s y
   unfolding moved_as
   refused-at Ends u y g h e =
       let w = g refl in
@@ -137,7 +138,7 @@ refusals-are-rules =
           let f = fit image q store budget label b v in
           let s = made store 0 budget ε in
           let a = act x q.0 in
-          let g : (moved_as (exec x a script s) (get_or x.states q.0 none) budget store label).answer ≡ NotMoved y =
+          let g : (moved_as (exec x a script s) (get_or x.states q.0 none) budget store label).answer ≡ Err y =
           ap (λ (w : Verdict). (stepped_as w (moved_as (exec x a script s) (get_or x.states q.0 none) budget store label) store label).answer) (sym v) ∙ e in
           refused-at x q.0 (begins store script budget) budget store label (exec x a script s).out (exec x a script s).st y
           (λ o. (stands script (exec x a script s).st, (refl, ended_so x script a f s o))) (λ z o. stopped-so x script a f s z o) g;
@@ -184,7 +185,7 @@ unfolding moved_as
 moved_more ended u home budget more store label = refl
 moved_more (onto t) u home budget more store label =
     let k : budget + more - (u.left + more) ≡ budget - u.left = omega arith in
-    ap (λ (n : ℕ). record { answer = Moved (record { next = t; words = u.words; units = n }); store = u.store; label = label_words u.label ++ drop 10 label }) k
+    ap (λ (n : ℕ). record { answer = Ok (record { next = t; words = u.words; units = n }); store = u.store; label = label_words u.label ++ drop 10 label }) k
 
 module _ (x : Tables) (script bytes : List ℕ) (a : Action) (f : Fit a) (store label : List ℤ) (home budget more : ℕ) where
   abbrev first : Res
@@ -235,15 +236,15 @@ answers-keep image b q store script bytes budget more label l g h =
     ap (λ (v : Verdict). stepped_as v (moved_as two home (budget + more) store label) store label) (verdict-same image q store budget more label l)
     ∙ keep-by (step_verdict image q store budget label) _ _ store label (λ v.
     moved_same x script bytes a (fit image q store budget label b v) store label home budget more one.out refl
-    (λ y e r k. g r (answer-by (step_verdict image q store budget label) one home budget store label y v e ∙ ap NotMoved k))
-    (λ y e r k. h r (answer-by (step_verdict image q store budget label) one home budget store label y v e ∙ ap NotMoved k)))
+    (λ y e r k. g r (answer-by (step_verdict image q store budget label) one home budget store label y v e ∙ ap Err k))
+    (λ y e r k. h r (answer-by (step_verdict image q store budget label) one home budget store label y v e ∙ ap Err k)))
   where
-    keep-by : (v : Verdict) (d c : StepDone) (store label : List ℤ) → (v ≡ Accepted → d ≡ c) → stepped_as v d store label ≡ stepped_as v c store label
-    keep-by Accepted d c store label h = h refl
-    keep-by (Refused y) d c store label h = refl
+    keep-by : (v : Verdict) (d c : StepDone) (store label : List ℤ) → (v ≡ Ok tt → d ≡ c) → stepped_as v d store label ≡ stepped_as v c store label
+    keep-by (Ok _) d c store label h = h refl
+    keep-by (Err y) d c store label h = refl
 
-    answer-by : (v : Verdict) (r : Res) (home budget : ℕ) (store label : List ℤ) (y : Refusal) → v ≡ Accepted → r.out ≡ Stops y
-        → (stepped_as v (moved_as r home budget store label) store label).answer ≡ NotMoved y
+    answer-by : (v : Verdict) (r : Res) (home budget : ℕ) (store label : List ℤ) (y : Refusal) → v ≡ Ok tt → r.out ≡ Stops y
+        → (stepped_as v (moved_as r home budget store label) store label).answer ≡ Err y
     answer-by v r home budget store label y e k =
         ap (λ (w : Verdict). (stepped_as w (moved_as r home budget store label) store label).answer) e
         ∙ ap (λ (d : StepDone). d.answer) (stays_by r home budget store label y k)

@@ -1,10 +1,11 @@
 -- What the promises shut out, from the starred cases; and that they determine the answers. Assumes nothing.
+use Rattle.std.specs.Prelude.{Ok, Err}
 use mathlib.Core.{Path.◌≡◌, Path.refl, Path.sym, Path.ap, Path.◌∙◌, Path.subst, List.List, List.[], List.◌∷◌}
 use Prim.Native.Nat.{ℕ}
 use native.Mathlib.Omega.{arith}
 use lib.{IntN.ℤ, IntN.pos, IntN.negsuc, ListN.get_or}
-use Rattle.model.specs.declared.{Verdict.TheVariants.Accepted, Verdict.TheVariants.Refused, Stepped.Stepped, Stepped.TheVariants.Moved, Stepped.TheVariants.NotMoved, Refusal.TheVariants.ImageLength}
-use Rattle.model.specs.Answers.{state, after}
+use Rattle.model.specs.declared.{Refusal.TheVariants.ImageLength}
+use Rattle.model.specs.Answers.{state, after, Stepped}
 use Rattle.model.specs.Image.{length_fits}
 use Rattle.model.specs.Calls.{image_verdict, check_verdict, check, Checked, step, StepDone}
 use Rattle.model.specs.Cases.{Case, Right, AllRight, both, cases, writer, old, undefined}
@@ -22,7 +23,7 @@ rest : {c : Case} {cs : List Case} → AllRight (c ∷ cs) → AllRight cs
 rest (both p q) = q
 
 -- the table writer: accepted, and its first two steps
-writer-accepted : (check writer (7 ∷ 7 ∷ 7 ∷ 7 ∷ [])).answer ≡ Accepted
+writer-accepted : (check writer (7 ∷ 7 ∷ 7 ∷ 7 ∷ [])).answer ≡ Ok tt
 unfolding cases
 writer-accepted = ap (λ (c : Checked). c.answer) (first (rest starred))
 
@@ -41,14 +42,14 @@ unfolding cases second-step
 second-label = ap (λ (d : StepDone). get_or d.label 0 (pos 0)) (first (rest (rest (rest (rest (rest (rest starred)))))))
 
 moved-number : Stepped → ℕ
-moved-number (Moved m) = 0
-moved-number (NotMoved y) = 1
+moved-number (Ok m) = 0
+moved-number (Err y) = 1
 
 first-moves : moved-number first_step.answer ≡ 0
 unfolding cases first_step moved-number
 first-moves = ap (λ (d : StepDone). moved-number d.answer) (first (rest (rest (rest (rest (rest starred))))))
 
-empty-refused : (check [] []).answer ≡ Refused ImageLength
+empty-refused : (check [] []).answer ≡ Err ImageLength
 unfolding check check_verdict image_verdict after length_fits
 empty-refused = refl
 
@@ -56,7 +57,7 @@ pub shut_out_lem : MovesAreTransitions → ShutOut
 unfolding first_step second-step moved-number
 shut_out_lem moves = record {
   refuser = λ f. f writer (7 ∷ 7 ∷ 7 ∷ 7 ∷ []) writer-accepted;
-  accepter = λ f. let e : Refused ImageLength ≡ Accepted = sym empty-refused ∙ f [] [] in let k : ◌≡◌ {A = ℕ} 0 1 = cc in omega arith;
+  accepter = λ f. let e : Err ImageLength ≡ Ok tt = sym empty-refused ∙ f [] [] in let k : ◌≡◌ {A = ℕ} 0 1 = cc in omega arith;
   blocker = λ f.
       let b = f writer (state 0) (undefined ∷ pos 2 ∷ []) [] 1000000 old in
       let k : ◌≡◌ {A = ℕ} 0 1 = sym first-moves ∙ ap moved-number b.1 in

@@ -1,9 +1,11 @@
 -- 1. Every run that ends or jumps is a derivation of Figure 2, and so is every move of step. Assumes nothing.
+use Rattle.std.specs.Prelude.{Ok, Err, Some}
+use Rattle.model.specs.Answers.{Verdict}
 use mathlib.Core.{Path.◌≡◌, Path.refl, Path.sym, Path.ap, Path.◌∙◌, Path.subst, List.List, List.[], List.◌++◌}
 use Prim.Native.Nat.{ℕ, zero, suc, ◌+◌, ◌-◌, ◌/◌, ◌<◌}
 use native.Mathlib.Omega.{arith}
 use lib.{IntN.ℤ, IntN.pos, IntN.negsuc, ListN.length, ListN.drop}
-use Rattle.model.specs.declared.{State.State, Variable.Variable, Move.Move, Value.TheVariants.Is, Verdict.Verdict, Verdict.TheVariants.Accepted, Verdict.TheVariants.Refused, Stepped.TheVariants.Moved, Outcome.Outcome, Outcome.TheVariants.Ends, Outcome.TheVariants.Jumps, Outcome.TheVariants.Stops}
+use Rattle.model.specs.declared.{State.State, Variable.Variable, Move.Move, Outcome.Outcome, Outcome.TheVariants.Ends, Outcome.TheVariants.Jumps, Outcome.TheVariants.Stops}
 use Rattle.model.specs.Bytes.{word_at}
 use Rattle.model.specs.Lists.{table}
 use Rattle.model.specs.Image.{Tables, none, tables_of}
@@ -53,7 +55,7 @@ module _ (x : Tables) (script : List ℕ) where
       let q = p.run in
       record { said = q.said; does = d_select p.nth q.does; sure = q.sure; sum = q.sum; pays = omega (arith, q.pays); words = (l, p.is, q.words) }
 
-  armed-run : {e : Exp} {arms : Arms} {z : ℤ} {s u : St} {o : Next} (r : ℕ) → eval x e s.store ≡ Is z → Armed arms z s o u
+  armed-run : {e : Exp} {arms : Arms} {z : ℤ} {s u : St} {o : Next} (r : ℕ) → eval x e s.store ≡ Some z → Armed arms z s o u
       → Run x script (at r (case e arms)) s (toll r + s.left) o u
   unfolding cost choices ReadsDefined
   armed-run r h p =
@@ -119,7 +121,7 @@ module _ (x : Tables) (script : List ℕ) where
 -- ---- step
 module _ (x : Tables) (q : State) (store : List ℤ) (script : List ℕ) (budget : ℕ) (label : List ℤ) (m : Move) where
   run-transition : (r : ℕ) (o : Outcome) (u : St) → Moves (Run x script (act x q.0) (made store 0 budget ε) budget) (gives o u)
-      → (moved_as (gives o u) r budget store label).answer ≡ Moved m → Transition x q store script label m (moved_as (gives o u) r budget store label)
+      → (moved_as (gives o u) r budget store label).answer ≡ Ok m → Transition x q store script label m (moved_as (gives o u) r budget store label)
   unfolding moved_as
   run-transition r Ends u a e = let c : ◌≡◌ {A = ℕ} 0 1 = cc in absurd (omega arith)
   run-transition r (Jumps t) u a e =
@@ -138,10 +140,10 @@ module _ (x : Tables) (q : State) (store : List ℤ) (script : List ℕ) (budget
       })
   run-transition r (Stops y) u a e = let c : ◌≡◌ {A = ℕ} 0 1 = cc in absurd (omega arith)
 
-  step-transition : (v : Verdict) (d : StepDone) → (d.answer ≡ Moved m → Transition x q store script label m d)
-      → (stepped_as v d store label).answer ≡ Moved m → Transition x q store script label m (stepped_as v d store label)
-  step-transition Accepted d h e = h e
-  step-transition (Refused y) d h e = let c : ◌≡◌ {A = ℕ} 0 1 = cc in absurd (omega arith)
+  step-transition : (v : Verdict) (d : StepDone) → (d.answer ≡ Ok m → Transition x q store script label m d)
+      → (stepped_as v d store label).answer ≡ Ok m → Transition x q store script label m (stepped_as v d store label)
+  step-transition (Ok _) d h e = h e
+  step-transition (Err y) d h e = let c : ◌≡◌ {A = ℕ} 0 1 = cc in absurd (omega arith)
 
 pub moves-are-transitions : MovesAreTransitions
 unfolding step attempt

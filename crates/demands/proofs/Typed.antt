@@ -1,12 +1,13 @@
 -- Values stay in their types: stores that pass 13 and 18 are evaluated to values of the expressions' types and stay such.
 -- Assumes nothing.
+use Rattle.std.specs.Prelude.{Option, Some, None}
 use mathlib.Core.{Path.◌≡◌, Path.refl, Path.sym, Path.◌∙◌, Path.subst, Logic.⊎_elim}
 use mathlib.Core.{Bool.Bool, Bool.true, Bool.false, Bool.not, Bool.◌&&◌, Bool.◌||◌, List.List}
 use Prim.Native.Nat.{ℕ, ◌<◌}
 use native.Mathlib.{Omega.arith, Decide.ℕ_discrete}
 use lib.{Dec.eqb, IntN.ℤ, ListN.length, ListN.get_or, ListN.set, ListN.length-set, Seq.get_or-set_same, Seq.get_or-set_other, Signed.mag, Signed.lt_z, Signed.le_z}
 use borrow.Author.Tests.{ltb-true, lt-ltb, eqb-true, not-true}
-use Rattle.model.specs.declared.{Variable.Variable, Value.Value, Value.TheVariants.Is, Value.TheVariants.Unknown, Tested.TheVariants.Holds, Tested.TheVariants.Fails, Tested.TheVariants.Unsure, Tested.Tested}
+use Rattle.model.specs.declared.{Variable.Variable, Tested.TheVariants.Holds, Tested.TheVariants.Fails, Tested.TheVariants.Unsure, Tested.Tested}
 use Rattle.model.specs.Answers.{variable}
 use Rattle.model.specs.Values.{mark, is_zero, same, of_bool, of_size}
 use Rattle.model.specs.Image.{Tables, bool, int, size_of, type_of}
@@ -72,34 +73,34 @@ module _ (x : Tables) where
       (one-true _ _ (slot-fits x m v.0 (w.each v.0 i)))
 
   -- what an evaluation that gives a value comes from
-  pub eval-var : (m : List ℤ) (v : Variable) (z : ℤ) → eval x (var v) m ≡ Is z → (defined x m v ≡ true) × (slot x m v ≡ z)
+  pub eval-var : (m : List ℤ) (v : Variable) (z : ℤ) → eval x (var v) m ≡ Some z → (defined x m v ≡ true) × (slot x m v ≡ z)
   unfolding eval
   eval-var m v z e = go (defined x m v) refl e
     where
-      go : (b : Bool) → defined x m v ≡ b → elim b [ true ↦ Is (slot x m v) | false ↦ Unknown ] ≡ Is z → (b ≡ true) × (slot x m v ≡ z)
+      go : (b : Bool) → defined x m v ≡ b → elim b [ true ↦ Some (slot x m v) | false ↦ None ] ≡ Some z → (b ≡ true) × (slot x m v ≡ z)
       go true d q = (refl, cc)
       go false d q = let k : ◌≡◌ {A = ℕ} 0 1 = cc in absurd (omega arith)
 
-  pub eval-unary : (m : List ℤ) (o : Unary) (e : Exp) (z : ℤ) → eval x (unary o e) m ≡ Is z → (a : ℤ) × (eval x e m ≡ Is a) × (z ≡ apply_unary x.half o a)
+  pub eval-unary : (m : List ℤ) (o : Unary) (e : Exp) (z : ℤ) → eval x (unary o e) m ≡ Some z → (a : ℤ) × (eval x e m ≡ Some a) × (z ≡ apply_unary x.half o a)
   unfolding eval
   eval-unary m o e z q = go (eval x e m) refl q
     where
-      go : (y : Value) → eval x e m ≡ y → elim y [ Is a ↦ Is (apply_unary x.half o a) | Unknown ↦ Unknown ] ≡ Is z
-          → (a : ℤ) × (eval x e m ≡ Is a) × (z ≡ apply_unary x.half o a)
-      go (Is a) d h = (a, d, cc)
-      go Unknown d h = let k : ◌≡◌ {A = ℕ} 0 1 = cc in absurd (omega arith)
+      go : (y : Option ℤ) → eval x e m ≡ y → elim y [ Some a ↦ Some (apply_unary x.half o a) | None ↦ None ] ≡ Some z
+          → (a : ℤ) × (eval x e m ≡ Some a) × (z ≡ apply_unary x.half o a)
+      go (Some a) d h = (a, d, cc)
+      go None d h = let k : ◌≡◌ {A = ℕ} 0 1 = cc in absurd (omega arith)
 
-  pub eval-binary : (m : List ℤ) (o : Binary) (d e : Exp) (z : ℤ) → eval x (binary o d e) m ≡ Is z
-      → (a b : ℤ) × (eval x d m ≡ Is a) × (eval x e m ≡ Is b) × (z ≡ apply_binary x.half o a b)
+  pub eval-binary : (m : List ℤ) (o : Binary) (d e : Exp) (z : ℤ) → eval x (binary o d e) m ≡ Some z
+      → (a b : ℤ) × (eval x d m ≡ Some a) × (eval x e m ≡ Some b) × (z ≡ apply_binary x.half o a b)
   unfolding eval
   eval-binary m o d e z q = go (eval x d m) (eval x e m) refl refl q
     where
-      go : (y u : Value) → eval x d m ≡ y → eval x e m ≡ u
-          → elim y [ Is a ↦ elim u [ Is b ↦ Is (apply_binary x.half o a b) | Unknown ↦ Unknown ] | Unknown ↦ Unknown ] ≡ Is z
-          → (a b : ℤ) × (eval x d m ≡ Is a) × (eval x e m ≡ Is b) × (z ≡ apply_binary x.half o a b)
-      go (Is a) (Is b) f g h = (a, b, f, g, cc)
-      go (Is a) Unknown f g h = let k : ◌≡◌ {A = ℕ} 0 1 = cc in absurd (omega arith)
-      go Unknown u f g h = let k : ◌≡◌ {A = ℕ} 0 1 = cc in absurd (omega arith)
+      go : (y u : Option ℤ) → eval x d m ≡ y → eval x e m ≡ u
+          → elim y [ Some a ↦ elim u [ Some b ↦ Some (apply_binary x.half o a b) | None ↦ None ] | None ↦ None ] ≡ Some z
+          → (a b : ℤ) × (eval x d m ≡ Some a) × (eval x e m ≡ Some b) × (z ≡ apply_binary x.half o a b)
+      go (Some a) (Some b) f g h = (a, b, f, g, cc)
+      go (Some a) None f g h = let k : ◌≡◌ {A = ℕ} 0 1 = cc in absurd (omega arith)
+      go None u f g h = let k : ◌≡◌ {A = ℕ} 0 1 = cc in absurd (omega arith)
 
 module _ (x : Tables) (w : Whole x) where
   wide : 0 < x.half
@@ -137,7 +138,7 @@ module _ (x : Tables) (w : Whole x) where
   binary-type (comparison Less) s t a b e h = bool-type (lt_z a b)
   binary-type (comparison AtMost) s t a b e h = bool-type (le_z a b)
 
-  is-const : (s : ℕ) (k : ℤ) (m : List ℤ) (z : ℤ) → eval x (const s k) m ≡ Is z → k ≡ z
+  is-const : (s : ℕ) (k : ℤ) (m : List ℤ) (z : ℤ) → eval x (const s k) m ≡ Some z → k ≡ z
   unfolding eval
   is-const s k m z q = cc
 
@@ -146,7 +147,7 @@ module _ (x : Tables) (w : Whole x) where
   takes_of o d e h = h
 
   -- an expression's value is of its type
-  pub eval-typed : (e : Exp) (m : List ℤ) (z : ℤ) → GoodExp x e → TypedStore x m → eval x e m ≡ Is z → OfType x (type_of_exp x e) z
+  pub eval-typed : (e : Exp) (m : List ℤ) (z : ℤ) → GoodExp x e → TypedStore x m → eval x e m ≡ Some z → OfType x (type_of_exp x e) z
   unfolding GoodExp type_of_exp
   eval-typed (var v) m z g t q = let p = eval-var x m v z q in subst (OfType x (type_of x v)) p.1 (slot-typed x m v g t p.0)
   eval-typed (const s k) m z g t q = subst (OfType x s) (is-const s k m z q) g.value

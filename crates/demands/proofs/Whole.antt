@@ -1,10 +1,11 @@
 -- An image of bytes that passes 1 to 9: its width, its types, its fields. Assumes nothing.
+use Rattle.std.specs.Prelude.{Ok}
 use mathlib.Core.{Path.◌≡◌, Path.refl, Bool.Bool, Bool.true, Bool.false, Bool.◌&&◌, List.List, List.[], List.◌∷◌}
 use Prim.Native.Nat.{ℕ, zero, suc, ◌+◌, ◌*◌, ◌≤◌, ◌<◌}
 use native.Mathlib.Omega.{arith}
 use lib.{Dec.eqb, Dec.leb, Dec.ltb, ListN.length, ListN.get_or, ListN.get_or-eq_default}
 use borrow.Author.Tests.{ltb-true, ltb-false, leb-true, eqb-true}
-use Rattle.model.specs.declared.{Fields.Fields, Image.Image, Verdict.TheVariants.Accepted}
+use Rattle.model.specs.declared.{Fields.Fields, Image.Image}
 use Rattle.model.specs.Bytes.{half_at}
 use Rattle.model.specs.Lists.{table}
 use Rattle.model.specs.Image.{Tables, Entry, bool, int, fields_at, fields_of, trailer_of, tables_of, row_count, others_fit, sizes_fit, entries_fit, entries_right}
@@ -50,7 +51,7 @@ small_at s b r = go (ltb r (row_count i)) refl
         rw (get_or-eq_default (table f 0 (row_count i)) d {n = r} (omega (arith, length-table f 0 (row_count i), ltb-false r (row_count i) e)))
         (record { a = omega arith; b = omega arith; c = omega arith })
 
-pub whole : (s : List ℕ) → AreBytes s → image_verdict s ≡ Accepted → Whole (tables_of s)
+pub whole : (s : List ℕ) → AreBytes s → image_verdict s ≡ Ok tt → Whole (tables_of s)
 unfolding tables_of
 whole s b e = record { free = (passed s e).free; half = refl; small = small_at s b }
 

@@ -1,9 +1,9 @@
 -- Typing and binding as the report prints them (A.2, A.1), rule by rule, with what 01 adds ("The checker's rules"): judgements on
 -- trees, no masks and no tests. Assumes nothing.
 use mathlib.Core.{Path.◌≡◌, Bool.true, List.List, List.[], List.◌∷◌}
-use Rattle.std.specs.Prelude.{ℕ, ◌<◌}
+use Rattle.std.specs.Prelude.{ℕ, ◌<◌, Ok, Err}
 use lib.{IntN.ℤ, ListN.length}
-use Rattle.model.specs.declared.{Variable.Variable, State.State, Gate.Gate, Refusal.TheVariants.Typing, Refusal.TheVariants.Binding, Verdict.TheVariants.Accepted, Verdict.TheVariants.Refused}
+use Rattle.model.specs.declared.{Variable.Variable, State.State, Gate.Gate, Refusal.TheVariants.Typing, Refusal.TheVariants.Binding}
 use Rattle.model.specs.Answers.{row}
 use Rattle.model.specs.Image.{Tables, bool, int, type_of, entry_of, length_fits, marked, trailer_of, starts_fit, entries_right, tables_of}
 use Rattle.model.specs.Rows.{Unary, Not, Negate, Logic, Arithmetic, Equal, Less, AtMost, Binary, logic, arithmetic, comparison, Means, an_expression, a_pattern, an_offer, an_action, another, means_at}
@@ -223,23 +223,23 @@ pub record FreeToSeven (s : List ℕ) : Type 0 where
   pub marked : marked s ≡ true
   pub starts : starts_fit (trailer_of s) ≡ true
   pub entries : entries_right (tables_of s) ≡ true
-  pub rows : rows_verdict (tables_of s) ≡ Accepted
+  pub rows : rows_verdict (tables_of s) ≡ Ok tt
 
 -- an image is accepted exactly if 1 to 7 pass and its automaton is well typed and well bound
 abbrev pub AcceptedIsWell : Type 0
-AcceptedIsWell = (s : List ℕ) → Iff (image_verdict s ≡ Accepted) (FreeToSeven s × AutomatonTyped (tables_of s) × AutomatonBound (tables_of s))
+AcceptedIsWell = (s : List ℕ) → Iff (image_verdict s ≡ Ok tt) (FreeToSeven s × AutomatonTyped (tables_of s) × AutomatonBound (tables_of s))
 
 -- 8 is given exactly at the lowest row whose tree isn't well typed
 abbrev pub TypingIsLowest : Type 0
 TypingIsLowest =
     (s : List ℕ) (r : ℕ)
-    → Iff (image_verdict s ≡ Refused (Typing (row r))) (FreeToSeven s × Lowest (RowTyped (tables_of s)) (length (tables_of s).rows) r)
+    → Iff (image_verdict s ≡ Err (Typing (row r))) (FreeToSeven s × Lowest (RowTyped (tables_of s)) (length (tables_of s).rows) r)
 
 -- 9 is given exactly if the automaton is well typed, at the lowest row whose tree isn't well bound
 abbrev pub BindingIsLowest : Type 0
 BindingIsLowest =
     (s : List ℕ) (r : ℕ)
-    → Iff (image_verdict s ≡ Refused (Binding (row r)))
+    → Iff (image_verdict s ≡ Err (Binding (row r)))
     (FreeToSeven s × AutomatonTyped (tables_of s) × Lowest (RowBound (tables_of s)) (length (tables_of s).rows) r)
 
 pub record RulesAreJudgements : Type 0 where

@@ -1,9 +1,9 @@
 -- The demands, said of the definitions: each is a type, and `demands` in proofs/Demands proves them all. Assumes nothing.
 use mathlib.Core.{Path.◌≡◌, Bool.Bool, Bool.true, Bool.false, Bool.◌||◌, List.List, List.[], List.◌∷◌, List.◌++◌}
-use Rattle.std.specs.Prelude.{ℕ, ◌^◌, ◌≤◌, ◌<◌}
+use Rattle.std.specs.Prelude.{ℕ, ◌^◌, ◌≤◌, ◌<◌, Ok, Err}
 use lib.{Dec.eqb, IntN.ℤ, ListN.length, ListN.get_or, ListN.drop}
-use Rattle.model.specs.declared.{State.State, Variable.Variable, Move.Move, Row.Row, Refusal.TheVariants.Blocked, Outcome.Outcome, Outcome.TheVariants.Ends, Outcome.TheVariants.Jumps, Outcome.TheVariants.Stops, Verdict.TheVariants.Accepted, Stepped.Stepped, Stepped.TheVariants.Moved, Stepped.TheVariants.NotMoved}
-use Rattle.model.specs.Answers.{state, number}
+use Rattle.model.specs.declared.{State.State, Variable.Variable, Move.Move, Row.Row, Refusal.TheVariants.Blocked, Outcome.Outcome, Outcome.TheVariants.Ends, Outcome.TheVariants.Jumps, Outcome.TheVariants.Stops}
+use Rattle.model.specs.Answers.{state, number, Stepped}
 use Rattle.model.specs.Lists.{table}
 use Rattle.model.specs.Bytes.{bytes_of, unsigned, word_at}
 use Rattle.model.specs.Image.{Tables, tables_of}
@@ -32,7 +32,7 @@ pub record Transition (x : Tables) (q : State) (store : List ℤ) (script : List
 abbrev pub MovesAreTransitions : Type 0
 MovesAreTransitions =
     (image : List ℕ) (q : State) (store : List ℤ) (script : List ℕ) (budget : ℕ) (label : List ℤ) (m : Move)
-    → (step image q store script budget label).answer ≡ Moved m
+    → (step image q store script budget label).answer ≡ Ok m
     → Transition (tables_of image) q store script label m (step image q store script budget label)
 
 -- the script read off a derivation: its choices as little-endian words
@@ -45,7 +45,7 @@ script_of (z ∷ zs) = bytes_of 4 (unsigned (2 ^ 31) z) ++ script_of zs
 -- the budget
 abbrev pub TransitionsAreMoves : Type 0
 TransitionsAreMoves =
-    (image : List ℕ) → AreBytes image → image_verdict image ≡ Accepted
+    (image : List ℕ) → AreBytes image → image_verdict image ≡ Ok tt
     → (q : State) (store label : List ℤ) (said : Label) (t : State) (n : List ℤ)
     → q.0 < length (tables_of image).states → length store ≡ length (tables_of image).variables
     → ((v : ℕ) → v < length (tables_of image).variables → slot_fits (tables_of image) store v ≡ true) → 10 ≤ length label
@@ -53,7 +53,7 @@ TransitionsAreMoves =
     → (rest : List ℕ)
     → step image q store (script_of (choices d) ++ rest) (cost d) label
     ≡ record {
-      answer = Moved (record { next = t; words = length (choices d); units = cost d });
+      answer = Ok (record { next = t; words = length (choices d); units = cost d });
       store = n;
       label = label_words said ++ drop 10 label;
     }
@@ -61,9 +61,9 @@ TransitionsAreMoves =
 -- 3. The states and stores reached: an unrefused start, and steps that are fed the state and store last given out, whatever the
 -- scripts, budgets and label buffers. (A step that refuses gives out neither.)
 pub data Runs (image : List ℕ) : State → List ℤ → Type 0 where
-  begun : (params store : List ℤ) → (start image params store).answer ≡ Accepted → Runs image (state 0) (start image params store).store
+  begun : (params store : List ℤ) → (start image params store).answer ≡ Ok tt → Runs image (state 0) (start image params store).store
   moved : {q : State} {store : List ℤ} (script : List ℕ) (budget : ℕ) (label : List ℤ) (m : Move) → Runs image q store
-      → (step image q store script budget label).answer ≡ Moved m → Runs image m.next (step image q store script budget label).store
+      → (step image q store script budget label).answer ≡ Ok m → Runs image m.next (step image q store script budget label).store
 
 unfoldable pub one_of : ℕ → List ℕ → Bool
 one_of n [] = false
@@ -71,8 +71,8 @@ one_of n (m ∷ ms) = eqb n m || one_of n ms
 
 -- a step from there gives a move or 19, 20, 21, 23, 24 or 25
 abbrev pub MayGive : Stepped → Type 0
-MayGive (Moved m) = Unit
-MayGive (NotMoved y) = one_of (number y) (19 ∷ 20 ∷ 21 ∷ 23 ∷ 24 ∷ 25 ∷ []) ≡ true
+MayGive (Ok m) = Unit
+MayGive (Err y) = one_of (number y) (19 ∷ 20 ∷ 21 ∷ 23 ∷ 24 ∷ 25 ∷ []) ≡ true
 
 -- where the run has communicated, a jump, 23, 24 or 25
 abbrev pub MayEnd : Outcome → Type 0
@@ -90,7 +90,7 @@ pub record Safe (image sets : List ℕ) (q : State) (store : List ℤ) : Type 0 
 
 abbrev pub DemandThree : Type 0
 DemandThree =
-    (image sets : List ℕ) → AreBytes image → (check image sets).answer ≡ Accepted → (q : State) (store : List ℤ) → Runs image q store
+    (image sets : List ℕ) → AreBytes image → (check image sets).answer ≡ Ok tt → (q : State) (store : List ℤ) → Runs image q store
     → Safe image sets q store
 
 -- 4. The sets are the largest that fit, check gives them, and the reached states are those that jumps lead to
@@ -98,11 +98,11 @@ pub record Sets (image : List ℕ) : Type 0 where
   pub largest : Largest (tables_of image) (λ s. get_or (sets_of (tables_of image)) s (top_of (tables_of image)))
   pub reached : (s : ℕ) → Has (reached_of (tables_of image)) s → Reached (tables_of image) s
   pub reaches : (s : ℕ) → Reached (tables_of image) s → Has (reached_of (tables_of image)) s
-  pub given : (sets : List ℕ) → (check image sets).answer ≡ Accepted → (s : ℕ) → s < length (tables_of image).states
+  pub given : (sets : List ℕ) → (check image sets).answer ≡ Ok tt → (s : ℕ) → s < length (tables_of image).states
       → get_or (check image sets).sets s 0 ≡ get_or (sets_of (tables_of image)) s (top_of (tables_of image))
 
 abbrev pub SetsAreLargest : Type 0
-SetsAreLargest = (image : List ℕ) → AreBytes image → image_verdict image ≡ Accepted → Sets image
+SetsAreLargest = (image : List ℕ) → AreBytes image → image_verdict image ≡ Ok tt → Sets image
 
 -- 5. What a call's promise says of an answer determines it, lent words too
 abbrev pub AnswersAreDetermined : Type 0
@@ -115,14 +115,14 @@ AnswersAreDetermined =
 -- 6. What the promises shut out: a checker that refuses everything, one that accepts everything, a step that always gives 21, a
 -- step that repeats its label, a step that reports other units than it charged
 pub record ShutOut : Type 0 where
-  pub refuser : ((image sets : List ℕ) → (check image sets).answer ≡ Accepted → ⊥) → ⊥
-  pub accepter : ((image sets : List ℕ) → (check image sets).answer ≡ Accepted) → ⊥
+  pub refuser : ((image sets : List ℕ) → (check image sets).answer ≡ Ok tt → ⊥) → ⊥
+  pub accepter : ((image sets : List ℕ) → (check image sets).answer ≡ Ok tt) → ⊥
   pub blocker : ((image : List ℕ) (q : State) (store : List ℤ) (script : List ℕ) (budget : ℕ) (label : List ℤ)
-      → (r : Row) × ((step image q store script budget label).answer ≡ NotMoved (Blocked r))) → ⊥
+      → (r : Row) × ((step image q store script budget label).answer ≡ Err (Blocked r))) → ⊥
   pub repeater : ((image : List ℕ) (p q : State) (m n : List ℤ) (script : List ℕ) (budget : ℕ) (label : List ℤ)
       → (step image p m script budget label).label ≡ (step image q n script budget label).label) → ⊥
   pub reporter : (image : List ℕ) (q : State) (store : List ℤ) (script : List ℕ) (budget : ℕ) (label : List ℤ) (m : Move) (d : StepDone)
-      → d ≡ step image q store script budget label → d.answer ≡ Moved m → Transition (tables_of image) q store script label m d
+      → d ≡ step image q store script budget label → d.answer ≡ Ok m → Transition (tables_of image) q store script label m d
 
 -- 7. Speech as 01 reads it is Figures 9 and 10 as printed, on every tree
 abbrev pub SpeechIsFigures : Type 0

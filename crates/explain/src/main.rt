@@ -2,18 +2,14 @@
 #![tactic(auto)]
 
 use ended::ended;
-use model::Image;
+use loading::load_image;
 use notation::explain;
 use std::io;
-use std::io::Read;
 
-// One byte more than an image may have is read, so that a longer one is refused.
-const ROOM: u64 = Image::LENGTH as u64 + 1;
-
+// As in lister and draw but for the call: over a closure no plainer, since its bound would have to be asked of it.
 fn main(rt: HostRuntime) -> io::Result<()> {
-    let mut image = Vec::new(rt.alloc());
+    let image = load_image(rt.reader(), rt.alloc())?;
     let mut text = [0u8; 262144];
-    rt.reader().take(ROOM).read_to_end(&mut image)?;
     let end = explain(&image, &mut text);
     ended(rt.write_all(&text[..end]))
 }

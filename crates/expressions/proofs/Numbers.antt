@@ -1,4 +1,5 @@
 -- An operator's row: its operands, read as numbers of which the mark means unknown. Assumes nothing.
+use Rattle.std.specs.Prelude.{Some, None}
 use mathlib.Core.Logic.{inl, inr, ◌⊎◌}
 use mathlib.Core.{Path.◌≡◌, Path.refl, Path.sym, Path.ap, Path.◌∙◌, Bool.Bool, Bool.true, Bool.false, List.List, List.[], List.◌∷◌}
 use Prim.Native.Nat.{ℕ, ◌-◌, ◌^◌, ◌<◌}
@@ -7,7 +8,7 @@ use lib.{Dec.eqb, IntN.ℤ, IntN.pos, ListN.length, ListN.get_or, ListN.take, Se
 use borrow.Author.Tests.{eqb-true, eqb-false}
 use types.Run.{OneOf}
 use mir.{Syntax.w32, Val.to_z, Val.of_z}
-use Rattle.model.specs.declared.{Fields.Fields, Value.TheVariants.Is, Value.TheVariants.Unknown}
+use Rattle.model.specs.declared.{Fields.Fields}
 use Rattle.model.specs.Values.{half16, mark}
 use Rattle.model.specs.Image.{tables_of, fields_of}
 use Rattle.model.specs.Rows.{expression}
@@ -20,8 +21,8 @@ use Rattle.expressions.proofs.Operated.{value-undefined, value-defined, get_d_an
 use Rattle.expressions.proofs.Ways.{eval-small, variable-way, constant-way, operand, unary-way, unary-unknown, operands, binary-way, left-unknown, right-unknown}
 
 -- a value isn't the mark
-pub small-known : (z : ℤ) → mag z < 32768 → value_of z ≡ Is z
-small-known z h = sym (value-defined z (omega arith) not-mark) ∙ ap Is (held-is z (omega arith))
+pub small-known : (z : ℤ) → mag z < 32768 → value_of z ≡ Some z
+small-known z h = sym (value-defined z (omega arith) not-mark) ∙ ap Some (held-is z (omega arith))
   where
     not-mark : of_z w32 z ≡ 65536 → ⊥
     not-mark e =
@@ -31,7 +32,7 @@ small-known z h = sym (value-defined z (omega arith) not-mark) ∙ ap Is (held-i
 
 module _ {s : List ℕ} {rows r : ℕ} {m : List ℤ} (h : Runs expression s rows r m) where
   -- what an expression gives, as a number
-  pub as_number : {z : ℤ} → Is z ≡ eval (tables_of s) (expression_at (tables_of s) r) m → value_of z ≡ eval (tables_of s) (expression_at (tables_of s) r) m
+  pub as_number : {z : ℤ} → Some z ≡ eval (tables_of s) (expression_at (tables_of s) r) m → value_of z ≡ eval (tables_of s) (expression_at (tables_of s) r) m
   as_number {z} e = small-known z (eval-small h z (sym e)) ∙ e
 
   module _ {w : Fields} (e : w ≡ fields_of (tables_of s) r) where
@@ -46,10 +47,10 @@ module _ {s : List ℕ} {rows r : ℕ} {m : List ℤ} (h : Runs expression s row
 
 -- a number that an operand gave
 module _ {s : List ℕ} {rows r : ℕ} {m : List ℤ} (h : Runs expression s rows r m) (y : ℤ) (p : mag y < 2 ^ 31) (f : value_of y ≡ eval (tables_of s) (expression_at (tables_of s) r) m) where
-  number-unknown : of_z w32 y ≡ 65536 → eval (tables_of s) (expression_at (tables_of s) r) m ≡ Unknown
+  number-unknown : of_z w32 y ≡ 65536 → eval (tables_of s) (expression_at (tables_of s) r) m ≡ None
   number-unknown k = sym (value-undefined y p k ∙ f)
 
-  number-known : (of_z w32 y ≡ 65536 → ⊥) → eval (tables_of s) (expression_at (tables_of s) r) m ≡ Is (held y)
+  number-known : (of_z w32 y ≡ 65536 → ⊥) → eval (tables_of s) (expression_at (tables_of s) r) m ≡ Some (held y)
   number-known k = sym (value-defined y p k ∙ f)
 
   pub number_small : (of_z w32 y ≡ 65536 → ⊥) → mag (held y) < 32768
@@ -89,7 +90,7 @@ module _ {s : List ℕ} {rows r : ℕ} {m : List ℤ} (h : Applies s rows r m) {
     unfolding value_of
     first-unknown k = go kind-of
       where
-        go : OneOf (16 ∷ 19 ∷ []) w.code ⊎ (OneOf (16 ∷ 19 ∷ []) w.code → ⊥) → Unknown ≡ eval (tables_of s) (expression_at (tables_of s) r) m
+        go : OneOf (16 ∷ 19 ∷ []) w.code ⊎ (OneOf (16 ∷ 19 ∷ []) w.code → ⊥) → None ≡ eval (tables_of s) (expression_at (tables_of s) r) m
         go (inl o) = unary-unknown h.runs e o refl (number-unknown first.1 y p f k)
         go (inr n) = left-unknown h.runs e not_variable not_constant n refl (number-unknown first.1 y p f k)
 

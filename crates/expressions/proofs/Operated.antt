@@ -1,11 +1,11 @@
 -- Operators by their codes. Assumes nothing.
+use Rattle.std.specs.Prelude.{Some, None}
 use mathlib.Core.{Path.◌≡◌, Path.refl, Path.sym, Path.ap, Path.◌∙◌, Bool.Bool, Bool.true, Bool.false, Bool.not, List.List, List.[], List.◌∷◌}
 use Prim.Native.Nat.{ℕ, zero, suc, ◌^◌, ◌<◌}
 use lib.{Dec.eqb, IntN.ℤ, IntN.pos, ListN.length, ListN.get_or, Signed.mag}
 use borrow.Author.Tests.{eqb-true, eqb-false, ne_eqb, eq-eqb}
 use native.Mathlib.Omega.{arith}
 use mir.{Syntax.w32, Val.to_z, Val.of_z, ValLaws.to_z-of_z}
-use Rattle.model.specs.declared.{Value.TheVariants.Is, Value.TheVariants.Unknown}
 use Rattle.model.specs.Bytes.{signed}
 use Rattle.model.specs.Values.{half16, mark, is_zero, same}
 use Rattle.model.proofs.Values.{same_refl, same-ne}
@@ -90,15 +90,15 @@ pub other_constant : (a b : ℕ) → (a ≡ 1 → ⊥) → b < 65536 → to_z w3
 unfolding constant_by
 other_constant a b f h = rw (ne_eqb a 1 f) (to_z-of_z w32 (pos b) (record { sfits = omega arith }))
 
-pub value-undefined : (z : ℤ) → mag z < 2 ^ 31 → of_z w32 z ≡ 65536 → Unknown ≡ value_of z
+pub value-undefined : (z : ℤ) → mag z < 2 ^ 31 → of_z w32 z ≡ 65536 → None ≡ value_of z
 unfolding value_of
 value-undefined z h e = let q : z ≡ pos 65536 = sym (held-is z h) ∙ ap (to_z w32) e in rw q
 
-pub value-defined : (z : ℤ) → mag z < 2 ^ 31 → (of_z w32 z ≡ 65536 → ⊥) → Is (held z) ≡ value_of z
+pub value-defined : (z : ℤ) → mag z < 2 ^ 31 → (of_z w32 z ≡ 65536 → ⊥) → Some (held z) ≡ value_of z
 unfolding value_of
 value-defined z h f =
     let n : same z (mark half16) ≡ false = same-ne z (pos 65536) (λ q. f (ap (of_z w32) q)) in
-    ap Is (held-is z h) ∙ sym (first (not (same z (mark half16))) _ _ (ap not n))
+    ap Some (held-is z h) ∙ sym (first (not (same z (mark half16))) _ _ (ap not n))
 
 pub get_d_any : (l : List ℤ) (i : ℕ) (d e : ℤ) → i < length l → get_or l i d ≡ get_or l i e
 get_d_any [] i d e h = absurd (omega arith)

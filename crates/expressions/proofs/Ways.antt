@@ -1,4 +1,5 @@
 -- The ways of an expression's evaluation, by its row's code. Assumes nothing.
+use Rattle.std.specs.Prelude.{Option, Some, None}
 use mathlib.Core.Logic.{inl, inr}
 use mathlib.Core.{Path.◌≡◌, Path.refl, Path.sym, Path.ap, Path.◌∙◌, Path.subst, Bool.Bool, Bool.true, Bool.false, Bool.cond, Bool.◌&&◌, List.List, List.[], List.◌∷◌}
 use Prim.Native.Nat.{ℕ, ◌<◌}
@@ -8,7 +9,7 @@ use borrow.Author.Tests.{ltb-true}
 use types.Run.{OneOf}
 use mir.{Syntax.w32, Val.of_z}
 use Rattle.values.proofs.{Held.held, Held.held-is, Computed.zero-divisor, Computed.other-divisor}
-use Rattle.model.specs.declared.{Fields.Fields, Value.Value, Value.TheVariants.Is, Value.TheVariants.Unknown, Tested.TheVariants.Holds, Tested.TheVariants.Fails, Tested.TheVariants.Unsure}
+use Rattle.model.specs.declared.{Fields.Fields, Tested.TheVariants.Holds, Tested.TheVariants.Fails, Tested.TheVariants.Unsure}
 use Rattle.model.specs.Values.{half16, mark, is_zero, of_size}
 use Rattle.model.specs.Image.{Tables, trailer_of, tables_of, fields_of, size_of}
 use Rattle.model.specs.Rows.{Kind, expression, Unary, Binary, ExpressionRow, is_variable, is_constant, is_unary, is_binary, Not, Negate, an_expression, codes, lookup, shape_of, means_at}
@@ -61,7 +62,7 @@ value-small {x} w t z e = go (eqb (size_of x t) 0) refl e
 
 module _ {s : List ℕ} {rows r : ℕ} {m : List ℤ} (h : Runs expression s rows r m) where
   -- what an expression gives is small
-  pub eval-small : (z : ℤ) → eval (tables_of s) (expression_at (tables_of s) r) m ≡ Is z → mag z < 32768
+  pub eval-small : (z : ℤ) → eval (tables_of s) (expression_at (tables_of s) r) m ≡ Some z → mag z < 32768
   eval-small z e =
       let w = all h.ready in
       value-small w (type_of_exp (tables_of s) (expression_at (tables_of s) r)) z
@@ -69,24 +70,24 @@ module _ {s : List ℕ} {rows r : ℕ} {m : List ℤ} (h : Runs expression s row
 
 -- one level of an evaluation
 module _ (x : Tables) (m : List ℤ) where
-  one-is : (o : Unary) (e : Exp) (a : ℤ) → eval x e m ≡ Is a → eval x (unary o e) m ≡ Is (apply_unary x.half o a)
+  one-is : (o : Unary) (e : Exp) (a : ℤ) → eval x e m ≡ Some a → eval x (unary o e) m ≡ Some (apply_unary x.half o a)
   unfolding eval
-  one-is o e a q = ap (λ (y : Value). elim y [ Is b ↦ Is (apply_unary x.half o b) | Unknown ↦ Unknown ]) q
+  one-is o e a q = ap (λ (y : Option ℤ). elim y [ Some b ↦ Some (apply_unary x.half o b) | None ↦ None ]) q
 
-  one-unknown : (o : Unary) (e : Exp) → eval x e m ≡ Unknown → eval x (unary o e) m ≡ Unknown
+  one-unknown : (o : Unary) (e : Exp) → eval x e m ≡ None → eval x (unary o e) m ≡ None
   unfolding eval
-  one-unknown o e q = ap (λ (y : Value). elim y [ Is b ↦ Is (apply_unary x.half o b) | Unknown ↦ Unknown ]) q
+  one-unknown o e q = ap (λ (y : Option ℤ). elim y [ Some b ↦ Some (apply_unary x.half o b) | None ↦ None ]) q
 
-  both_of : Binary → Value → Value → Value
-  both_of o u v = elim u [ Is a ↦ elim v [ Is b ↦ Is (apply_binary x.half o a b) | Unknown ↦ Unknown ] | Unknown ↦ Unknown ]
+  both_of : Binary → Option ℤ → Option ℤ → Option ℤ
+  both_of o u v = elim u [ Some a ↦ elim v [ Some b ↦ Some (apply_binary x.half o a b) | None ↦ None ] | None ↦ None ]
 
-  two-are : (o : Binary) (d e : Exp) (u v : Value) → eval x d m ≡ u → eval x e m ≡ v → eval x (binary o d e) m ≡ both_of o u v
+  two-are : (o : Binary) (d e : Exp) (u v : Option ℤ) → eval x d m ≡ u → eval x e m ≡ v → eval x (binary o d e) m ≡ both_of o u v
   unfolding eval both_of
-  two-are o d e u v p q = ap (λ (y : Value). both_of o y (eval x e m)) p ∙ ap (both_of o u) q
+  two-are o d e u v p q = ap (λ (y : Option ℤ). both_of o y (eval x e m)) p ∙ ap (both_of o u) q
 
-  left-none : (o : Binary) (d e : Exp) → eval x d m ≡ Unknown → eval x (binary o d e) m ≡ Unknown
+  left-none : (o : Binary) (d e : Exp) → eval x d m ≡ None → eval x (binary o d e) m ≡ None
   unfolding eval both_of
-  left-none o d e p = ap (λ (y : Value). both_of o y (eval x e m)) p
+  left-none o d e p = ap (λ (y : Option ℤ). both_of o y (eval x e m)) p
 
 -- the operators' rows by their codes
 unary-row : (c : ℕ) → OneOf (16 ∷ 19 ∷ []) c → (shape_of c).means ≡ an_expression (is_unary (unary_of c))
@@ -135,9 +136,9 @@ module _ {s : List ℕ} {rows r : ℕ} {m : List ℤ} (h : Runs expression s row
   unfolding shape_of lookup codes
   is-constant c = means-as 2 c
 
-  pub constant-way : {z : ℤ} → w.code ≡ 2 → z ≡ constant_by w.a w.b → Is z ≡ eval (tables_of s) (expression_at (tables_of s) r) m
+  pub constant-way : {z : ℤ} → w.code ≡ 2 → z ≡ constant_by w.a w.b → Some z ≡ eval (tables_of s) (expression_at (tables_of s) r) m
   unfolding constant_by eval grow_expression tables_of
-  constant-way c f = rw (tree-as is_constant (is-constant c)) (ap Is f)
+  constant-way c f = rw (tree-as is_constant (is-constant c)) (ap Some f)
 
   -- one operand
   is-unary : OneOf (16 ∷ 19 ∷ []) w.code → means_at (tables_of s) r ≡ an_expression (is_unary (unary_of w.code))
@@ -150,13 +151,13 @@ module _ {s : List ℕ} {rows r : ℕ} {m : List ℤ} (h : Runs expression s row
   unfolding grow_expression
   unary-tree o = tree-as _ (is-unary o)
 
-  pub unary-way : {v : Value} {a z : ℤ} → OneOf (16 ∷ 19 ∷ []) w.code → v ≡ eval (tables_of s) (expression_at (tables_of s) w.a) m → v ≡ Is a
-      → z ≡ apply_unary half16 (unary_of w.code) a → Is z ≡ eval (tables_of s) (expression_at (tables_of s) r) m
+  pub unary-way : {v : Option ℤ} {a z : ℤ} → OneOf (16 ∷ 19 ∷ []) w.code → v ≡ eval (tables_of s) (expression_at (tables_of s) w.a) m → v ≡ Some a
+      → z ≡ apply_unary half16 (unary_of w.code) a → Some z ≡ eval (tables_of s) (expression_at (tables_of s) r) m
   unfolding tables_of
-  unary-way {a = a} o f g k = ap Is k ∙ sym (rw (unary-tree o) (one-is (tables_of s) m (unary_of w.code) _ a (sym f ∙ g)))
+  unary-way {a = a} o f g k = ap Some k ∙ sym (rw (unary-tree o) (one-is (tables_of s) m (unary_of w.code) _ a (sym f ∙ g)))
 
-  pub unary-unknown : {v : Value} → OneOf (16 ∷ 19 ∷ []) w.code → v ≡ eval (tables_of s) (expression_at (tables_of s) w.a) m → v ≡ Unknown
-      → Unknown ≡ eval (tables_of s) (expression_at (tables_of s) r) m
+  pub unary-unknown : {v : Option ℤ} → OneOf (16 ∷ 19 ∷ []) w.code → v ≡ eval (tables_of s) (expression_at (tables_of s) w.a) m → v ≡ None
+      → None ≡ eval (tables_of s) (expression_at (tables_of s) r) m
   unary-unknown o f g = sym (rw (unary-tree o) (one-unknown (tables_of s) m (unary_of w.code) _ (sym f ∙ g)))
 
   -- two operands
@@ -175,23 +176,23 @@ module _ {s : List ℕ} {rows r : ℕ} {m : List ℤ} (h : Runs expression s row
     unfolding grow_expression
     binary-tree = tree-as _ is-binary
 
-    pub binary-way : {u v : Value} {a b z : ℤ} → u ≡ eval (tables_of s) (expression_at (tables_of s) w.a) m → u ≡ Is a
-        → v ≡ eval (tables_of s) (expression_at (tables_of s) w.b) m → v ≡ Is b → z ≡ apply_binary half16 (binary_of w.code) a b
-        → Is z ≡ eval (tables_of s) (expression_at (tables_of s) r) m
+    pub binary-way : {u v : Option ℤ} {a b z : ℤ} → u ≡ eval (tables_of s) (expression_at (tables_of s) w.a) m → u ≡ Some a
+        → v ≡ eval (tables_of s) (expression_at (tables_of s) w.b) m → v ≡ Some b → z ≡ apply_binary half16 (binary_of w.code) a b
+        → Some z ≡ eval (tables_of s) (expression_at (tables_of s) r) m
     unfolding both_of tables_of
-    binary-way {a = a} {b = b} p q i j l = ap Is l ∙ sym (rw binary-tree (two-are (tables_of s) m (binary_of w.code) _ _ (Is a) (Is b) (sym p ∙ q) (sym i ∙ j)))
+    binary-way {a = a} {b = b} p q i j l = ap Some l ∙ sym (rw binary-tree (two-are (tables_of s) m (binary_of w.code) _ _ (Some a) (Some b) (sym p ∙ q) (sym i ∙ j)))
 
-    pub left-unknown : {u : Value} → u ≡ eval (tables_of s) (expression_at (tables_of s) w.a) m → u ≡ Unknown
-        → Unknown ≡ eval (tables_of s) (expression_at (tables_of s) r) m
+    pub left-unknown : {u : Option ℤ} → u ≡ eval (tables_of s) (expression_at (tables_of s) w.a) m → u ≡ None
+        → None ≡ eval (tables_of s) (expression_at (tables_of s) r) m
     left-unknown p q = sym (rw binary-tree (left-none (tables_of s) m (binary_of w.code) _ _ (sym p ∙ q)))
 
-    pub right-unknown : {u v : Value} {a : ℤ} → u ≡ eval (tables_of s) (expression_at (tables_of s) w.a) m → u ≡ Is a
-        → v ≡ eval (tables_of s) (expression_at (tables_of s) w.b) m → v ≡ Unknown → Unknown ≡ eval (tables_of s) (expression_at (tables_of s) r) m
+    pub right-unknown : {u v : Option ℤ} {a : ℤ} → u ≡ eval (tables_of s) (expression_at (tables_of s) w.a) m → u ≡ Some a
+        → v ≡ eval (tables_of s) (expression_at (tables_of s) w.b) m → v ≡ None → None ≡ eval (tables_of s) (expression_at (tables_of s) r) m
     unfolding both_of
-    right-unknown {a = a} p q i j = sym (rw binary-tree (two-are (tables_of s) m (binary_of w.code) _ _ (Is a) Unknown (sym p ∙ q) (sym i ∙ j)))
+    right-unknown {a = a} p q i j = sym (rw binary-tree (two-are (tables_of s) m (binary_of w.code) _ _ (Some a) None (sym p ∙ q) (sym i ∙ j)))
 
 -- what a call gave, in a local
-module _ {s : List ℕ} {rows r : ℕ} {m : List ℤ} (h : Runs expression s rows r m) {v : Value} {z : ℤ} (e : v ≡ eval (tables_of s) (expression_at (tables_of s) r) m) (f : v ≡ Is z) where
+module _ {s : List ℕ} {rows r : ℕ} {m : List ℤ} (h : Runs expression s rows r m) {v : Option ℤ} {z : ℤ} (e : v ≡ eval (tables_of s) (expression_at (tables_of s) r) m) (f : v ≡ Some z) where
   pub local-is : held z ≡ z
   local-is = held-is z (let k = eval-small h z (sym e ∙ f) in omega arith)
 
@@ -203,13 +204,13 @@ module _ {s : List ℕ} {rows r : ℕ} {m : List ℤ} (h : Runs expression s row
   unfolding test
   test-fails k =
       let n : is_zero z ≡ true = zero-divisor z (let b = eval-small h z (sym e ∙ f) in omega arith) k in
-      sym (ap (λ (y : Value). elim y [ Is a ↦ elim (is_zero a) [ true ↦ Fails | false ↦ Holds ] | Unknown ↦ Unsure ]) (sym e ∙ f) ∙ ap (λ (b : Bool). elim b [ true ↦ Fails | false ↦ Holds ]) n)
+      sym (ap (λ (y : Option ℤ). elim y [ Some a ↦ elim (is_zero a) [ true ↦ Fails | false ↦ Holds ] | None ↦ Unsure ]) (sym e ∙ f) ∙ ap (λ (b : Bool). elim b [ true ↦ Fails | false ↦ Holds ]) n)
 
   pub test-holds : (of_z w32 z ≡ 0 → ⊥) → Holds ≡ test (tables_of s) (expression_at (tables_of s) r) m
   unfolding test
   test-holds k =
-      sym (ap (λ (y : Value). elim y [ Is a ↦ elim (is_zero a) [ true ↦ Fails | false ↦ Holds ] | Unknown ↦ Unsure ]) (sym e ∙ f) ∙ ap (λ (b : Bool). elim b [ true ↦ Fails | false ↦ Holds ]) (other-divisor z k))
+      sym (ap (λ (y : Option ℤ). elim y [ Some a ↦ elim (is_zero a) [ true ↦ Fails | false ↦ Holds ] | None ↦ Unsure ]) (sym e ∙ f) ∙ ap (λ (b : Bool). elim b [ true ↦ Fails | false ↦ Holds ]) (other-divisor z k))
 
-pub test-unsure : (x : Tables) (d : Exp) (m : List ℤ) {v : Value} → v ≡ eval x d m → v ≡ Unknown → Unsure ≡ test x d m
+pub test-unsure : (x : Tables) (d : Exp) (m : List ℤ) {v : Option ℤ} → v ≡ eval x d m → v ≡ None → Unsure ≡ test x d m
 unfolding test
-test-unsure x d m e f = sym (ap (λ (y : Value). elim y [ Is a ↦ elim (is_zero a) [ true ↦ Fails | false ↦ Holds ] | Unknown ↦ Unsure ]) (sym e ∙ f))
+test-unsure x d m e f = sym (ap (λ (y : Option ℤ). elim y [ Some a ↦ elim (is_zero a) [ true ↦ Fails | false ↦ Holds ] | None ↦ Unsure ]) (sym e ∙ f))

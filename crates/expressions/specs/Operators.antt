@@ -1,8 +1,7 @@
 -- Operators by their codes, and a variable's value (01, "The image", "Values"). Assumes nothing.
 use mathlib.Core.{Bool.true, Bool.false, Bool.not, Bool.cond}
-use Rattle.std.specs.Prelude.{ℕ}
+use Rattle.std.specs.Prelude.{ℕ, Option, Some, None}
 use lib.{Dec.eqb, IntN.ℤ, IntN.pos}
-use Rattle.model.specs.declared.{Value.Value, Value.TheVariants.Is, Value.TheVariants.Unknown}
 use Rattle.model.specs.Bytes.{signed}
 use Rattle.model.specs.Values.{mark, half16, same}
 use Rattle.model.specs.Image.{int}
@@ -50,8 +49,8 @@ binary_of c =
     ]
 
 -- "a slot holding 65,536 is undefined"
-unfoldable pub value_of : ℤ → Value
-value_of z = elim (not (same z (mark half16))) [ true ↦ Is z | false ↦ Unknown ]
+unfoldable pub value_of : ℤ → Option ℤ
+value_of z = elim (not (same z (mark half16))) [ true ↦ Some z | false ↦ None ]
 
 -- "constant of type a, value b (int: two's complement)"
 unfoldable pub constant_by : ℕ → ℕ → ℤ

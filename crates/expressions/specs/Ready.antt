@@ -1,7 +1,6 @@
 -- What the interpreter's functions ask. Assumes nothing.
 use mathlib.Core.{Path.◌≡◌, Bool.true, List.List}
-use Rattle.std.specs.Prelude.{ℕ, ◌<◌, ℤ}
-use Rattle.model.specs.declared.{Verdict.TheVariants.Accepted}
+use Rattle.std.specs.Prelude.{ℕ, ◌<◌, ℤ, Ok}
 use Rattle.model.specs.Image.{trailer_of, tables_of, row_count, fields_of}
 use Rattle.model.specs.Rows.{Kind, expression, is_kind}
 use Rattle.model.specs.Calls.{image_verdict}
@@ -12,7 +11,7 @@ use Rattle.demands.specs.Stores.{TypedStore}
 -- an image free of 1 to 9 and a store that passes 13 and 18
 pub record Ready (s : List ℕ) (m : List ℤ) : Type 0 where
   pub bytes : AreBytes s
-  pub passed : image_verdict s ≡ Accepted
+  pub passed : image_verdict s ≡ Ok tt
   pub store : TypedStore (tables_of s) m
 
 -- a row, by where the rows start

@@ -11,7 +11,7 @@ ghost use Rattle.model.specs.Run.{apply_unary, apply_binary, eval, test};
 ghost use Rattle.expressions.specs.Operators.{unary_of, binary_of, value_of, constant_by};
 ghost use Rattle.expressions.specs.Ready.{RowFrom, Runs, Applies};
 
-use model::{Fields, Image, Tested, Value};
+use model::{Fields, Image, Tested};
 use values::{minus, negate, of_bool, plus, quotient, remainder, signed, times};
 use words::half;
 
@@ -30,17 +30,17 @@ pub fn row(image: &[u8], rows: u16, r: u16) -> Fields
 }
 
 // A number that may be the mark, as a value.
-pub fn known(z: i32) -> Value
+pub fn known(z: i32) -> Option<i32>
     ensures { result ≡ value_of z }
 {
     if z == Image::UNDEFINED {
-        return Value::Unknown;
+        return None;
     }
-    Value::Is(z)
+    Some(z)
 }
 
 // A variable's value.
-pub fn value(store: &[i32], v: u16) -> Value
+pub fn value(store: &[i32], v: u16) -> Option<i32>
     requires { v < length store.now }
     ensures { result ≡ value_of (get_or store.now v (mark half16)) }
 {
@@ -135,7 +135,7 @@ fn operand(image: &[u8], rows: u16, r: u16, store: &[i32]) -> i32
 }
 
 // The value of an expression.
-pub fn eval(image: &[u8], rows: u16, r: u16, store: &[i32]) -> Value
+pub fn eval(image: &[u8], rows: u16, r: u16, store: &[i32]) -> Option<i32>
     requires { Runs expression image.now rows r store.now }
     ensures { result ≡ eval (tables_of image.now) (expression_at (tables_of image.now) r) store.now }
 {
@@ -143,7 +143,7 @@ pub fn eval(image: &[u8], rows: u16, r: u16, store: &[i32]) -> Value
     let code = w.code;
     match code {
         1 => value(store, w.a),
-        2 => Value::Is(constant(w.a, w.b)),
+        2 => Some(constant(w.a, w.b)),
         _ => known(apply(image, rows, r, store)),
     }
 }
@@ -154,7 +154,7 @@ pub fn test(image: &[u8], rows: u16, r: u16, store: &[i32]) -> Tested
     ensures { result ≡ test (tables_of image.now) (expression_at (tables_of image.now) r) store.now }
 {
     match eval(image, rows, r, store) {
-        Value::Is(a) => { if a == 0 { Tested::Fails } else { Tested::Holds } }
-        Value::Unknown => Tested::Unsure,
+        Some(a) => { if a == 0 { Tested::Fails } else { Tested::Holds } }
+        None => Tested::Unsure,
     }
 }

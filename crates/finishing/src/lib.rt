@@ -8,8 +8,7 @@ ghost use Rattle.actions.specs.State.{label_of, result_of};
 ghost use Rattle.finishing.specs.Finishing.{Finishes};
 
 use actions::{Ran, Run, blocked_at};
-use model::{Move, Outcome, Stepped};
-use words::copy;
+use model::{Move, Outcome, Refusal};
 
 // Word k of a label: its gate (-1 where nothing was said), the number of its values, the values, then zeros.
 fn label_word(values: &[i32], run: Run, k: usize) -> i32
@@ -42,10 +41,8 @@ pub fn put_label(label: &mut [i32], values: &[i32], run: Run)
     requires { (10 ≤ length label.old) × (length values.now ≡ 8) }
     ensures { label.new ≡ label_words (label_of run values.now) ++ drop 10 label.old }
 {
-    let mut k = 0;
-    while k < 10 {
-        label[k] = label_word(values, run, k);
-        k += 1;
+    for (k, word) in label[..10].iter_mut().enumerate() {
+        *word = label_word(values, run, k);
     }
 }
 
@@ -58,18 +55,18 @@ pub fn finish(
     label: &mut [i32],
     work: &[i32],
     values: &[i32],
-) -> Stepped
+) -> Result<Move, Refusal>
     requires { Finishes ran budget store.old label.old work.now values.now }
     ensures { record { answer = result; store = store.new; label = label.new } ≡ moved_as (result_of ran work.now values.now) at budget store.old label.old }
 {
     let out = ran.out;
     match out {
-        Outcome::Ends => Stepped::NotMoved(blocked_at(at, ran.run.spoken)),
-        Outcome::Stops(y) => Stepped::NotMoved(y),
+        Outcome::Ends => Err(blocked_at(at, ran.run.spoken)),
+        Outcome::Stops(y) => Err(y),
         Outcome::Jumps(t) => {
-            copy(store, work);
+            store.copy_from_slice(work);
             put_label(label, values, ran.run);
-            Stepped::Moved(Move {
+            Ok(Move {
                 next: t,
                 words: ran.run.words as u32,
                 units: budget - ran.run.left as u32,

@@ -1,19 +1,19 @@
 -- The graph of an image (report, section 4, NT2DOT): a box for each state with its action, an arrow for each jump, with the
 -- gates that can be spoken on the way to it. Assumes nothing.
 use mathlib.Core.{Bool.Bool, Bool.true, Bool.false, Bool.not, Bool.◌||◌, List.List, List.[], List.◌++◌}
-use Rattle.std.specs.Prelude.{ℕ, zero, suc}
+use Rattle.std.specs.Prelude.{ℕ, zero, suc, Ok, Err}
 use lib.{Dec.eqb, Dec.ltb, ListN.get_or, ListN.replicate}
-use Rattle.model.specs.declared.{Image.Image, Fields.Fields, Refusal.Refusal, Verdict.Verdict, Verdict.TheVariants.Accepted, Verdict.TheVariants.Refused}
+use Rattle.model.specs.declared.{Image.Image, Fields.Fields, Refusal.Refusal}
 use Rattle.model.specs.Limits.{limits}
-use Rattle.model.specs.Answers.{number, place}
+use Rattle.model.specs.Answers.{number, place, Verdict}
 use Rattle.model.specs.Masks.{bit, inside, join}
 use Rattle.model.specs.Image.{Tables, none, trailer_of, tables_of, fields_of, state_count}
 use Rattle.model.specs.Calls.{check}
 use Rattle.text.specs.Emit.{bytes}
-use Rattle.notation.specs.declared.Style.{Style}
+use Rattle.notation.specs.declared.{Style.Style, Table.TheVariants.States}
 use Rattle.notation.specs.Texts.{each}
 use Rattle.notation.specs.Whole.{fields_with, words_text, table_text, refusal_text, pointing, pointless}
-use Rattle.graph.specs.declared.{Said.Said, Parts.Parts}
+use Rattle.graph.specs.declared.{Said.Said, Order.Order, Order.TheVariants.Leaf, Order.TheVariants.InTurn, Order.TheVariants.Either, Order.TheVariants.Again, Parts.Parts}
 use Rattle.notation.specs.Lines.{GRAPH, BOX, ARROW, LABEL-END, GRAPH-END, REFUSED-BOX, SPOKEN-TAU, SPOKEN-GATE}
 
 abbrev pub saying : ℕ → Bool → Said
@@ -39,31 +39,31 @@ with_gate gates g = elim (ltb g 64) [ true ↦ join gates (bit g) | false ↦ ga
 unfoldable pub spoken : Said → ℕ → Said
 spoken m g = elim (reached m) [ true ↦ saying (with_gate m.gates g) false | false ↦ nowhere ]
 
--- the parts of a row, and how they are gone through: 0 none, 1 one after the other, 2 one or the other, 3 again and again
-abbrev pub parts : ℕ → ℕ → ℕ → Parts
-parts a b k = record { first = a; second = b; kind = k }
+-- the parts of a row, and how they are gone through: it has none, one after the other, one or the other, again and again
+abbrev pub parts : ℕ → ℕ → Order → Parts
+parts a b o = record { first = a; second = b; order = o }
 
 unfoldable pub parts_of : Fields → Parts
 parts_of w =
     elim (eqb w.code 54) [
-      | true ↦ parts w.a w.b 1
+      | true ↦ parts w.a w.b InTurn
       | false ↦
           elim (eqb w.code 55) [
-            | true ↦ parts w.a none 2
+            | true ↦ parts w.a none Either
             | false ↦
                 elim (eqb w.code 56) [
-                  | true ↦ parts w.b none 2
+                  | true ↦ parts w.b none Either
                   | false ↦
                       elim (eqb w.code 57) [
-                        | true ↦ parts w.a w.b 2
+                        | true ↦ parts w.a w.b Either
                         | false ↦
                             elim (eqb w.code 58) [
-                              | true ↦ parts w.b w.c 2
+                              | true ↦ parts w.b w.c Either
                               | false ↦
                                   elim (eqb w.code 59) [
-                                    | true ↦ parts w.b none 3
+                                    | true ↦ parts w.b none Again
                                     | false ↦
-                                        elim (eqb w.code 60) [ true ↦ parts w.b none 3 | false ↦ parts none none 0 ]
+                                        elim (eqb w.code 60) [ true ↦ parts w.b none Again | false ↦ parts none none Leaf ]
                                   ]
                             ]
                       ]
@@ -77,15 +77,17 @@ after_leaf w m = elim (eqb w.code 52) [ true ↦ spoken m w.a | false ↦ elim (
 
 -- how the second part is entered, and what is said after both. A loop's body is entered as the loop is: in an accepted image
 -- it ends as quiet as it began (01, "Speech")
-unfoldable pub enters : ℕ → Said → Said → Said
-enters k m a = elim (eqb k 1) [ true ↦ a | false ↦ m ]
+unfoldable pub enters : Order → Said → Said → Said
+enters Leaf m a = m
+enters InTurn m a = a
+enters Either m a = m
+enters Again m a = m
 
-unfoldable pub leaves : ℕ → Fields → Said → Said → Said → Said
-leaves k w m a b =
-    elim (eqb k 0) [
-      | true ↦ after_leaf w m
-      | false ↦ elim (eqb k 1) [ true ↦ b | false ↦ elim (eqb k 2) [ true ↦ either a b | false ↦ either m a ] ]
-    ]
+unfoldable pub leaves : Order → Fields → Said → Said → Said → Said
+leaves Leaf w m a b = after_leaf w m
+leaves InTurn w m a b = b
+leaves Either w m a b = either a b
+leaves Again w m a b = either m a
 
 -- what is said after row r, entered with m said
 unfoldable pub said_after : ℕ → Tables → ℕ → Said → Said
@@ -97,7 +99,7 @@ said_after (suc n) x r m =
           let w = fields_of x r in
           let p = parts_of w in
           let a = said_after n x p.first m in
-          leaves p.kind w m a (said_after n x p.second (enters p.kind m a))
+          leaves p.order w m a (said_after n x p.second (enters p.order m a))
     ]
 
 -- the gates of a label, or that nothing is said
@@ -131,7 +133,7 @@ arrows (suc n) x q r m =
       | false ↦
           let w = fields_of x r in
           let p = parts_of w in
-          arrow_text q w m ++ arrows n x q p.first m ++ arrows n x q p.second (enters p.kind m (said_after n x p.first m))
+          arrow_text q w m ++ arrows n x q p.first m ++ arrows n x q p.second (enters p.order m (said_after n x p.first m))
     ]
 
 unfoldable pub state_arrows : Tables → ℕ → List ℕ
@@ -141,7 +143,7 @@ state_arrows x q = arrows limits.rows x q (get_or x.states q none) silent
 unfoldable pub graph_text : Tables → Image → Style → List ℕ
 graph_text x i st =
     words_text st GRAPH (fields_with 0 0 0) 0
-    ++ table_text x i st BOX
+    ++ table_text x i st (States BOX)
     ++ each (state_arrows x) (state_count i)
     ++ words_text st GRAPH-END (fields_with 0 0 0) 0
 
@@ -154,8 +156,8 @@ refused_text st y =
     ++ words_text st GRAPH-END (fields_with 0 0 0) 0
 
 unfoldable pub drawn_by : List ℕ → Verdict → List ℕ
-drawn_by s Accepted = graph_text (tables_of s) (trailer_of s) (pointless true)
-drawn_by s (Refused y) =
+drawn_by s (Ok _) = graph_text (tables_of s) (trailer_of s) (pointless true)
+drawn_by s (Err y) =
     let st = pointing (number y) (place y) true in
     elim (ltb (number y) 8) [ true ↦ refused_text st y | false ↦ graph_text (tables_of s) (trailer_of s) st ]
 

@@ -2,26 +2,27 @@
 #![tactic(auto)]
 
 ghost use Rattle.std.specs.Prelude.{◌≡◌, true, ◌<◌};
-ghost use Rattle.model.specs.Image.{tables_of, state_count};
-ghost use Rattle.image.specs.Located.{Located, StateOf};
+ghost use Rattle.model.specs.Image.{state_count};
+ghost use Rattle.image.specs.Located.{tables, Located, StateOf};
 ghost use Rattle.text.specs.Emit.{page, Emitted};
+ghost use Rattle.text.specs.Written.{Written};
 ghost use Rattle.notation.specs.Texts.{each};
 ghost use Rattle.notation.specs.Whole.{pointless};
 ghost use Rattle.listing.specs.Gave.{Gave};
 ghost use Rattle.graph.specs.Ways.{nowhere, either, reached, with_gate, spoken, parts_of, after_leaf, enters, leaves, gate_line, gate_text, quiet_text, label_text, arrow_text, state_arrows, graph_text, refused_text, drawn};
 ghost use Rattle.graph.specs.Walked.{Walked};
 
-use image::{state_row, trailer};
+use image::{Automaton, trailer};
 use masks::{bit, inside};
-use model::{Fields, Image, Refusal, Verdict};
+use model::{Fields, Image, Refusal};
 use notation::lines::{
     ARROW, BOX, GRAPH, GRAPH_END, LABEL_END, REFUSED_BOX, SPOKEN_GATE, SPOKEN_TAU,
 };
 use notation::tables::put_table;
 use notation::whole::{pointing, put_refusal, put_said};
-use notation::{Style, row_fields};
+use notation::{Style, Table, row_fields};
 use ntif::check;
-use text::emit;
+use text::Page;
 
 // What can have been said on the ways that lead to a row: on these gates; or nothing.
 #[derive(Clone, Copy)]
@@ -30,19 +31,21 @@ pub struct Said {
     pub quiet: bool,
 }
 
-// The parts of a row, and how they are gone through: 0 none, 1 one after the other, 2 one or the other, 3 again and again.
+// How a row's parts are gone through: it has none, one after the other, one or the other, again and again.
+#[derive(Clone, Copy)]
+pub enum Order {
+    Leaf,
+    InTurn,
+    Either,
+    Again,
+}
+
+// The parts of a row, and how they are gone through.
 #[derive(Clone, Copy)]
 pub struct Parts {
     pub first: u16,
     pub second: u16,
-    pub kind: u8,
-}
-
-// Where the text ends after a row's arrows, and what is said after the row.
-#[derive(Clone, Copy)]
-pub struct Walk {
-    pub at: usize,
-    pub said: Said,
+    pub order: Order,
 }
 
 fn plain_style() -> Style
@@ -52,6 +55,16 @@ fn plain_style() -> Style
         place: Image::NONE,
         state: Image::NONE,
         graph: true,
+    }
+}
+
+// Where no way leads.
+fn nowhere() -> Said
+    ensures { result ≡ nowhere }
+{
+    Said {
+        gates: 0,
+        quiet: false,
     }
 }
 
@@ -92,19 +105,16 @@ fn spoken(m: Said, g: u16) -> Said
             quiet: false,
         };
     }
-    Said {
-        gates: 0,
-        quiet: false,
-    }
+    nowhere()
 }
 
-fn parts_at(first: u16, second: u16, kind: u8) -> Parts
-    ensures { result ≡ record { first = first; second = second; kind = kind } }
+fn parts_at(first: u16, second: u16, order: Order) -> Parts
+    ensures { result ≡ record { first = first; second = second; order = order } }
 {
     Parts {
         first,
         second,
-        kind,
+        order,
     }
 }
 
@@ -113,14 +123,14 @@ fn parts_of(w: Fields) -> Parts
 {
     let code = w.code;
     match code {
-        54 => parts_at(w.a, w.b, 1),
-        55 => parts_at(w.a, Image::NONE, 2),
-        56 => parts_at(w.b, Image::NONE, 2),
-        57 => parts_at(w.a, w.b, 2),
-        58 => parts_at(w.b, w.c, 2),
-        59 => parts_at(w.b, Image::NONE, 3),
-        60 => parts_at(w.b, Image::NONE, 3),
-        _ => parts_at(Image::NONE, Image::NONE, 0),
+        54 => parts_at(w.a, w.b, Order::InTurn),
+        55 => parts_at(w.a, Image::NONE, Order::Either),
+        56 => parts_at(w.b, Image::NONE, Order::Either),
+        57 => parts_at(w.a, w.b, Order::Either),
+        58 => parts_at(w.b, w.c, Order::Either),
+        59 => parts_at(w.b, Image::NONE, Order::Again),
+        60 => parts_at(w.b, Image::NONE, Order::Again),
+        _ => parts_at(Image::NONE, Image::NONE, Order::Leaf),
     }
 }
 
@@ -131,36 +141,32 @@ fn after_leaf(w: Fields, m: Said) -> Said
         return spoken(m, w.a);
     }
     if w.code == 53 {
-        return Said {
-            gates: 0,
-            quiet: false,
-        };
+        return nowhere();
     }
     m
 }
 
-fn enters(k: u8, m: Said, a: Said) -> Said
-    ensures { result ≡ enters k m a }
+// What is said where the second part is entered, after the first.
+fn enters(order: Order, m: Said, a: Said) -> Said
+    ensures { result ≡ enters order m a }
 {
-    if k == 1 {
-        return a;
+    match order {
+        Order::Leaf => m,
+        Order::InTurn => a,
+        Order::Either => m,
+        Order::Again => m,
     }
-    m
 }
 
-fn leaves(k: u8, w: Fields, m: Said, a: Said, b: Said) -> Said
-    ensures { result ≡ leaves k w m a b }
+fn leaves(order: Order, w: Fields, m: Said, a: Said, b: Said) -> Said
+    ensures { result ≡ leaves order w m a b }
 {
-    if k == 0 {
-        return after_leaf(w, m);
+    match order {
+        Order::Leaf => after_leaf(w, m),
+        Order::InTurn => b,
+        Order::Either => either(a, b),
+        Order::Again => either(m, a),
     }
-    if k == 1 {
-        return b;
-    }
-    if k == 2 {
-        return either(a, b);
-    }
-    either(m, a)
 }
 
 fn gate_line(g: u16) -> u32
@@ -172,175 +178,143 @@ fn gate_line(g: u16) -> u32
     SPOKEN_GATE
 }
 
-fn put_gate(gates: u64, g: u16, text: &mut [u8], at: usize) -> usize
+fn put_gate(gates: u64, g: u16, page: &mut Page<'_>)
     requires { g < 64 }
-    ensures { Emitted (gate_text gates g) (page at text.old) (page result text.new) }
+    ensures { Written (gate_text gates g) page.old page.new }
 {
     let one = bit(g);
     if inside(one, gates) {
-        let k = gate_line(g);
-        let st = plain_style();
-        return put_said(st, k, g, 0, 0, 0, text, at);
+        put_said(plain_style(), gate_line(g), g, 0, 0, 0, page);
     }
-    at
 }
 
-fn put_gates(gates: u64, text: &mut [u8], at: usize) -> usize
-    ensures { Emitted (each (gate_text gates) 64) (page at text.old) (page result text.new) }
+fn put_gates(gates: u64, page: &mut Page<'_>)
+    ensures { Written (each (gate_text gates) 64) page.old page.new }
 {
-    let mut end = at;
-    let mut g = 0;
-    while g < 64 {
-        end = put_gate(gates, g, text, end);
-        g += 1;
+    for g in 0..64 {
+        put_gate(gates, g, page);
     }
-    end
 }
 
-fn put_quiet(quiet: bool, text: &mut [u8], at: usize) -> usize
-    ensures { Emitted (quiet_text quiet) (page at text.old) (page result text.new) }
+fn put_quiet(quiet: bool, page: &mut Page<'_>)
+    ensures { Written (quiet_text quiet) page.old page.new }
 {
     if quiet {
-        return emit(text, at, b"quiet");
+        page.emit(b"quiet");
     }
-    at
 }
 
 // The gates of a label, or that nothing is said.
-fn put_label(m: Said, text: &mut [u8], at: usize) -> usize
-    ensures { Emitted (label_text m) (page at text.old) (page result text.new) }
+fn put_label(m: Said, page: &mut Page<'_>)
+    ensures { Written (label_text m) page.old page.new }
 {
     if reached(m) {
-        let a = put_quiet(m.quiet, text, at);
-        return put_gates(m.gates, text, a);
+        put_quiet(m.quiet, page);
+        put_gates(m.gates, page);
+    } else {
+        page.emit(b"dead");
     }
-    emit(text, at, b"dead")
 }
 
 // The arrow of a jump.
-fn put_arrow(q: u16, w: Fields, m: Said, text: &mut [u8], at: usize) -> usize
-    ensures { Emitted (arrow_text q w m) (page at text.old) (page result text.new) }
+fn put_arrow(q: u16, w: Fields, m: Said, page: &mut Page<'_>)
+    ensures { Written (arrow_text q w m) page.old page.new }
 {
     if w.code == 53 {
         let st = plain_style();
-        let a = put_said(st, ARROW, q, w.a, 0, 0, text, at);
-        let b = put_label(m, text, a);
-        return put_said(st, LABEL_END, 0, 0, 0, 0, text, b);
-    }
-    at
-}
-
-fn stopped(at: usize) -> Walk
-    ensures { result ≡ record { at = at; said = nowhere } }
-{
-    Walk {
-        at,
-        said: Said {
-            gates: 0,
-            quiet: false,
-        },
+        put_said(st, ARROW, q, w.a, 0, 0, page);
+        put_label(m, page);
+        put_said(st, LABEL_END, 0, 0, 0, 0, page);
     }
 }
 
-// The arrows of a row in the action of state q, entered with m said.
-fn walk_row(
-    image: &[u8],
-    i: Image,
-    q: u16,
-    r: u16,
-    m: Said,
-    left: u16,
-    text: &mut [u8],
-    at: usize,
-) -> Walk
-    requires { Located image.now i }
-    ensures { Walked left (tables_of image.now) q r m (page at text.old) (page result.at text.new) result.said }
+// The arrows of a row in the action of state q, entered with m said, and what is said after the row.
+fn walk_row(x: &Automaton, q: u16, r: u16, m: Said, left: u16, page: &mut Page<'_>) -> Said
+    requires { Located x.now.image.now x.now.trailer }
+    ensures { Walked left (tables x.now) q r m page.old page.new result }
 {
     if left == 0 {
-        return stopped(at);
+        return nowhere();
     }
     if r == Image::NONE {
-        return stopped(at);
+        return nowhere();
     }
-    let w = row_fields(image, i, r);
+    let w = row_fields(x, r);
     let p = parts_of(w);
-    let a = put_arrow(q, w, m, text, at);
-    let x = walk_row(image, i, q, p.first, m, left - 1, text, a);
-    let one = x.said;
-    let n = enters(p.kind, m, one);
-    let y = walk_row(image, i, q, p.second, n, left - 1, text, x.at);
-    let two = y.said;
-    let s = leaves(p.kind, w, m, one, two);
-    Walk { at: y.at, said: s }
+    put_arrow(q, w, m, page);
+    let one = walk_row(x, q, p.first, m, left - 1, page);
+    let n = enters(p.order, m, one);
+    let two = walk_row(x, q, p.second, n, left - 1, page);
+    leaves(p.order, w, m, one, two)
 }
 
-fn put_state_arrows(image: &[u8], i: Image, q: u16, text: &mut [u8], at: usize) -> usize
-    requires { StateOf image.now i q }
-    ensures { Emitted (state_arrows (tables_of image.now) q) (page at text.old) (page result text.new) }
+fn put_state_arrows(x: &Automaton, q: u16, page: &mut Page<'_>)
+    requires { StateOf x.now.image.now x.now.trailer q }
+    ensures { Written (state_arrows (tables x.now) q) page.old page.new }
 {
-    let row = state_row(image, i, q);
+    let row = x.state_row(q);
     let m = Said {
         gates: 0,
         quiet: true,
     };
-    let x = walk_row(image, i, q, row, m, Image::ROWS, text, at);
-    x.at
+    walk_row(x, q, row, m, Image::ROWS, page);
 }
 
-fn put_arrows(image: &[u8], i: Image, text: &mut [u8], at: usize) -> usize
-    requires { Located image.now i }
-    ensures { Emitted (each (state_arrows (tables_of image.now)) (state_count i)) (page at text.old) (page result text.new) }
+fn put_arrows(x: &Automaton, page: &mut Page<'_>)
+    requires { Located x.now.image.now x.now.trailer }
+    ensures { Written (each (state_arrows (tables x.now)) (state_count x.now.trailer)) page.old page.new }
 {
-    let n = (i.rows - i.states) / 2;
-    let mut end = at;
-    let mut q = 0;
-    while q < n {
-        end = put_state_arrows(image, i, q, text, end);
-        q += 1;
+    let n = (x.trailer.rows - x.trailer.states) / 2;
+    for q in 0..n {
+        put_state_arrows(x, q, page);
     }
-    end
 }
 
-fn put_graph(image: &[u8], i: Image, st: Style, text: &mut [u8], at: usize) -> usize
-    requires { Located image.now i }
-    ensures { Emitted (graph_text (tables_of image.now) i st) (page at text.old) (page result text.new) }
+fn put_graph(x: &Automaton, st: Style, page: &mut Page<'_>)
+    requires { Located x.now.image.now x.now.trailer }
+    ensures { Written (graph_text (tables x.now) x.now.trailer st) page.old page.new }
 {
-    let a = put_said(st, GRAPH, 0, 0, 0, 0, text, at);
-    let b = put_table(image, i, st, BOX, text, a);
-    let c = put_arrows(image, i, text, b);
-    put_said(st, GRAPH_END, 0, 0, 0, 0, text, c)
+    put_said(st, GRAPH, 0, 0, 0, 0, page);
+    put_table(x, st, Table::States(BOX), page);
+    put_arrows(x, page);
+    put_said(st, GRAPH_END, 0, 0, 0, 0, page);
 }
 
-fn put_refused(y: Refusal, st: Style, text: &mut [u8], at: usize) -> usize
-    ensures { Emitted (refused_text st y) (page at text.old) (page result text.new) }
+fn put_refused(y: Refusal, st: Style, page: &mut Page<'_>)
+    ensures { Written (refused_text st y) page.old page.new }
 {
-    let a = put_said(st, GRAPH, 0, 0, 0, 0, text, at);
-    let b = put_said(st, REFUSED_BOX, 0, 0, 0, 0, text, a);
-    let c = put_refusal(y, st, text, b);
-    let d = put_said(st, LABEL_END, 0, 0, 0, 0, text, c);
-    put_said(st, GRAPH_END, 0, 0, 0, 0, text, d)
+    put_said(st, GRAPH, 0, 0, 0, 0, page);
+    put_said(st, REFUSED_BOX, 0, 0, 0, 0, page);
+    put_refusal(y, st, page);
+    put_said(st, LABEL_END, 0, 0, 0, 0, page);
+    put_said(st, GRAPH_END, 0, 0, 0, 0, page);
 }
 
 // The graph, by what check gave with room for 64 sets.
-fn put_drawn(image: &[u8], v: Verdict, sets: &[u64], text: &mut [u8]) -> usize
+fn put_drawn(image: &[u8], v: Result<(), Refusal>, sets: &[u64], page: &mut Page<'_>)
     requires { Gave image.now v sets.now }
-    ensures { Emitted (drawn image.now) (page 0 text.old) (page result text.new) }
+    ensures { Written (drawn image.now) page.old page.new }
 {
     match v {
-        Verdict::Refused(y) => {
+        Err(y) => {
             let n = y.number();
             let p = y.place();
             let st = pointing(n, p, true);
             if n < 8 {
-                return put_refused(y, st, text, 0);
+                return put_refused(y, st, page);
             }
-            let i = trailer(image);
-            put_graph(image, i, st, text, 0)
+            let x = Automaton {
+                image,
+                trailer: trailer(image),
+            };
+            put_graph(&x, st, page);
         }
-        Verdict::Accepted => {
-            let i = trailer(image);
-            let st = plain_style();
-            put_graph(image, i, st, text, 0)
+        Ok(()) => {
+            let x = Automaton {
+                image,
+                trailer: trailer(image),
+            };
+            put_graph(&x, plain_style(), page);
         }
     }
 }
@@ -351,5 +325,7 @@ pub fn draw(image: &[u8], text: &mut [u8]) -> usize
 {
     let mut sets = [0u64; Image::STATES as usize];
     let v = check(image, &mut sets);
-    put_drawn(image, v, &sets, text)
+    let mut page = Page::new(text);
+    put_drawn(image, v, &sets, &mut page);
+    page.end
 }

@@ -1,13 +1,15 @@
 -- One law for each way of the code of 1 to 4. Assumes nothing.
+use Rattle.std.specs.Prelude.{Ok, Err}
 use mathlib.Core.{Path.◌≡◌, Path.refl, Path.sym, Path.ap, Path.◌∙◌, Bool.Bool, Bool.true, Bool.false, Bool.◌&&◌, List.List, List.[], List.◌∷◌}
-use Prim.Native.Nat.{ℕ, ◌+◌, ◌-◌, ◌/◌, ◌%◌, ◌≤◌, ◌<◌}
+use Prim.Native.Nat.{ℕ, zero, suc, ◌+◌, ◌-◌, ◌/◌, ◌%◌, ◌≤◌, ◌<◌}
 use native.Mathlib.{Omega.arith, Numerals.add-one}
 use lib.{Dec.eqb, Dec.leb, Dec.ltb, ListN.length, ListN.get_or, ListN.drop, Seq.drop-cons, ListN.drop_of_length-le}
-use borrow.Author.Tests.{lt-ltb, le-ltb, le-leb, lt-leb, eq-eqb, ne_eqb, leb-true, eqb-true}
-use Rattle.model.specs.declared.{Image.Image, Verdict.TheVariants.Accepted, Verdict.TheVariants.Refused, Refusal.TheVariants.ImageLength, Refusal.TheVariants.MarkOrLength, Refusal.TheVariants.Starts, Refusal.TheVariants.Entries}
+use borrow.Author.Tests.{le-leb, lt-leb, eq-eqb, ne_eqb, leb-true, eqb-true}
+use Rattle.std.proofs.Math.Bool.{and_assoc}
+use Rattle.std.specs.List.{list_all, range_with_len}
+use Rattle.model.specs.declared.{Image.Image, Refusal.TheVariants.ImageLength, Refusal.TheVariants.MarkOrLength, Refusal.TheVariants.Starts, Refusal.TheVariants.Entries}
 use Rattle.model.specs.Answers.{after, unless}
-use Rattle.model.specs.Image.{Entry, length_fits, marked, trailer_of, table_fits, starts_fit, others_fit, sizes_fit, entries_fit, entries_right, tables_of, size_of, entry_of}
-use Rattle.model.specs.Answers.{variable}
+use Rattle.model.specs.Image.{Entry, length_fits, marked, trailer_of, table_fits, starts_fit, others_fit, sizes_fit, entries_fit, entries_right, tables_of, size_of}
 use Rattle.image.proofs.Laid.{laid, types-count}
 use Rattle.model.proofs.Rows.{both_true}
 use Rattle.image.specs.Located.{Located, TypeOf, header_verdict}
@@ -66,6 +68,9 @@ pub chain-2 : (a b : Bool) → a ≡ true → false ≡ b → false ≡ (a && b)
 chain-2 a b e f = rw e f
 
 -- 4
+abbrev pub no_entry : Entry
+no_entry = record { type = 0; parameter = 0 }
+
 pub others-turn : (l : List ℕ) (t : ℕ) → t < length l → others_fit (drop t l) ≡ (leb 1 (get_or l t 0) && leb (get_or l t 0) 4096 && others_fit (drop (t + 1) l))
 unfolding others_fit
 others-turn l t h = rw (drop-cons l t 0 h, add-one)
@@ -83,6 +88,16 @@ pub entries-end : (n : ℕ) (l : List Entry) (v : ℕ) → length l ≤ v → en
 unfolding entries_fit
 entries-end n l v h = rw (drop_of_length-le l {i = v} h)
 
+-- "all of so many numbers from t on", as the tables' own recursion says it
+pub others-all : (l : List ℕ) (k t : ℕ) → t + k ≡ length l → list_all (λ j. leb 1 (get_or l j 0) && leb (get_or l j 0) 4096) (range_with_len t k) ≡ others_fit (drop t l)
+others-all l zero t e = sym (others-end l t (omega arith))
+others-all l (suc k) t e = rw (others-turn l t (omega arith), ← others-all l k (t + 1) (omega arith)) refl
+
+pub entries-all : (n : ℕ) (l : List Entry) (k v : ℕ) → v + k ≡ length l
+    → list_all (λ j. ltb (get_or l j no_entry).type n && leb (get_or l j no_entry).parameter 1) (range_with_len v k) ≡ entries_fit n (drop v l)
+entries-all n l zero v e = sym (entries-end n l v (omega arith))
+entries-all n l (suc k) v e = rw (entries-turn n l v no_entry (omega arith), ← entries-all n l k (v + 1) (omega arith)) (and_assoc (ltb (get_or l v no_entry).type n) (leb (get_or l v no_entry).parameter 1) _)
+
 -- a call's answer that was tested
 pub passes : {r t : Bool} → r ≡ t → r ≡ true → t ≡ true
 passes e f = sym e ∙ f
@@ -92,66 +107,6 @@ fails e f = sym e ∙ f
 
 pub chain-last : (a b c : Bool) → a ≡ true → c ≡ b → c ≡ (a && b)
 chain-last a b c e f = rw e f
-
--- the loop over the types that are neither bool nor int: what is left of them decides
-pub record Others (s : List ℕ) (t : ℕ) : Type 0 where
-  pub low : 2 ≤ t
-  pub high : t ≤ length (tables_of s).sizes
-  pub same : others_fit (drop t (tables_of s).sizes) ≡ others_fit (drop 2 (tables_of s).sizes)
-
-pub others-begin : {s : List ℕ} {i : Image} → Located s i → Others s 2
-others-begin l = record { low = omega arith; high = omega (arith, types-count l, (laid l).types_least); same = refl }
-
-module _ {s : List ℕ} where
-  others-here : {t : ℕ} → Others s t → t < length (tables_of s).sizes
-      → others_fit (drop 2 (tables_of s).sizes) ≡ (leb 1 (size_of (tables_of s) t) && leb (size_of (tables_of s) t) 4096 && others_fit (drop (t + 1) (tables_of s).sizes))
-  others-here {t} o h = sym o.same ∙ others-turn (tables_of s).sizes t h
-
-  pub others-low : {t k : ℕ} → Others s t → t < length (tables_of s).sizes → k ≡ size_of (tables_of s) t → k < 1 → false ≡ others_fit (drop 2 (tables_of s).sizes)
-  others-low {t} {k} o h e f = rw (others-here o h, ← e, lt-leb 1 k f)
-
-  pub others-high : {t k : ℕ} → Others s t → t < length (tables_of s).sizes → k ≡ size_of (tables_of s) t → 1 ≤ k → 4096 < k
-      → false ≡ others_fit (drop 2 (tables_of s).sizes)
-  others-high {t} {k} o h e f g = rw (others-here o h, ← e, le-leb 1 k f, lt-leb k 4096 g)
-
-  pub others-next : {t k : ℕ} → Others s t → t < length (tables_of s).sizes → k ≡ size_of (tables_of s) t → 1 ≤ k → k ≤ 4096 → Others s (t + 1)
-  others-next {t} {k} o h e f g =
-      record { low = omega (arith, o.low); high = omega arith; same = sym (rw (others-here o h, ← e, le-leb 1 k f, le-leb k 4096 g)) }
-
-  pub others-done : {t : ℕ} → Others s t → length (tables_of s).sizes ≤ t → true ≡ others_fit (drop 2 (tables_of s).sizes)
-  others-done {t} o h = sym (others-end (tables_of s).sizes t h) ∙ o.same
-
--- the loop over the variables
-pub record Entered (s : List ℕ) (v : ℕ) : Type 0 where
-  pub high : v ≤ length (tables_of s).variables
-  pub same : entries_fit (length (tables_of s).sizes) (drop v (tables_of s).variables) ≡ entries_fit (length (tables_of s).sizes) (tables_of s).variables
-
-module _ {s : List ℕ} where
-  pub entered-begin : Entered s 0
-  entered-begin = record { high = omega arith; same = refl }
-
-  entered_here : {v : ℕ} → Entered s v → v < length (tables_of s).variables
-      → entries_fit (length (tables_of s).sizes) (tables_of s).variables
-      ≡ (ltb (entry_of (tables_of s) (variable v)).type (length (tables_of s).sizes)
-      && (leb (entry_of (tables_of s) (variable v)).parameter 1 && entries_fit (length (tables_of s).sizes) (drop (v + 1) (tables_of s).variables)))
-  entered_here {v} o h =
-      sym o.same ∙ entries-turn (length (tables_of s).sizes) (tables_of s).variables v (record { type = 0; parameter = 0 }) h
-
-  pub entered-type : {v t : ℕ} → Entered s v → v < length (tables_of s).variables → t ≡ (entry_of (tables_of s) (variable v)).type → length (tables_of s).sizes ≤ t
-      → false ≡ entries_fit (length (tables_of s).sizes) (tables_of s).variables
-  entered-type {v} {t} o h e f = rw (entered_here o h, ← e, le-ltb t (length (tables_of s).sizes) f)
-
-  pub entered-parameter : {v t p : ℕ} → Entered s v → v < length (tables_of s).variables → t ≡ (entry_of (tables_of s) (variable v)).type → t < length (tables_of s).sizes
-      → p ≡ (entry_of (tables_of s) (variable v)).parameter → 1 < p → false ≡ entries_fit (length (tables_of s).sizes) (tables_of s).variables
-  entered-parameter {v} {t} {p} o h e f g k = rw (entered_here o h, ← e, ← g, lt-ltb t (length (tables_of s).sizes) f, lt-leb p 1 k)
-
-  pub entered-next : {v t p : ℕ} → Entered s v → v < length (tables_of s).variables → t ≡ (entry_of (tables_of s) (variable v)).type → t < length (tables_of s).sizes
-      → p ≡ (entry_of (tables_of s) (variable v)).parameter → p ≤ 1 → Entered s (v + 1)
-  entered-next {v} {t} {p} o h e f g k =
-      record { high = omega arith; same = sym (rw (entered_here o h, ← e, ← g, lt-ltb t (length (tables_of s).sizes) f, le-leb p 1 k)) }
-
-  pub entered-done : {v : ℕ} → Entered s v → length (tables_of s).variables ≤ v → true ≡ entries_fit (length (tables_of s).sizes) (tables_of s).variables
-  entered-done {v} o h = sym (entries-end (length (tables_of s).sizes) (tables_of s).variables v h) ∙ o.same
 
 pub sizes-turn : (l : List ℕ) → 2 ≤ length l → sizes_fit l ≡ (eqb (get_or l 0 0) 2 && (eqb (get_or l 1 0) 0 && others_fit (drop 2 l)))
 unfolding sizes_fit
@@ -184,15 +139,15 @@ pub located : (s : List ℕ) (i : Image) → i ≡ trailer_of s → length_fits 
 located s i e a b c = record { trailer = e; long = a; marked = b; starts = c }
 
 module _ (s : List ℕ) where
-  pub header-1 : length_fits s ≡ false → Refused ImageLength ≡ header_verdict s
+  pub header-1 : length_fits s ≡ false → Err ImageLength ≡ header_verdict s
   unfolding header_verdict after
   header-1 a = rw a
 
-  pub header-2 : length_fits s ≡ true → marked s ≡ false → Refused MarkOrLength ≡ header_verdict s
+  pub header-2 : length_fits s ≡ true → marked s ≡ false → Err MarkOrLength ≡ header_verdict s
   unfolding header_verdict after
   header-2 a b = rw (a, b)
 
-  pub header-3 : (i : Image) → i ≡ trailer_of s → length_fits s ≡ true → marked s ≡ true → starts_fit i ≡ false → Refused Starts ≡ header_verdict s
+  pub header-3 : (i : Image) → i ≡ trailer_of s → length_fits s ≡ true → marked s ≡ true → starts_fit i ≡ false → Err Starts ≡ header_verdict s
   unfolding header_verdict after
   header-3 i e a b c = rw (a, b, ← e, c)
 
@@ -200,17 +155,17 @@ module _ (s : List ℕ) where
   unfolding header_verdict after
   right i l = rw (l.long, l.marked, ← l.trailer, l.starts)
 
-  pub header-4 : (i : Image) → Located s i → sizes_fit (tables_of s).sizes ≡ false → Refused Entries ≡ header_verdict s
+  pub header-4 : (i : Image) → Located s i → sizes_fit (tables_of s).sizes ≡ false → Err Entries ≡ header_verdict s
   unfolding entries_right
   header-4 i l a = sym (right i l ∙ rw a)
 
   pub header-5 : (i : Image) → Located s i → sizes_fit (tables_of s).sizes ≡ true
-      → entries_fit (length (tables_of s).sizes) (tables_of s).variables ≡ false → Refused Entries ≡ header_verdict s
+      → entries_fit (length (tables_of s).sizes) (tables_of s).variables ≡ false → Err Entries ≡ header_verdict s
   unfolding entries_right
   header-5 i l a b = sym (right i l ∙ rw (a, b))
 
   pub header-6 : (i : Image) → Located s i → sizes_fit (tables_of s).sizes ≡ true
-      → entries_fit (length (tables_of s).sizes) (tables_of s).variables ≡ true → Accepted ≡ header_verdict s
+      → entries_fit (length (tables_of s).sizes) (tables_of s).variables ≡ true → Ok tt ≡ header_verdict s
   unfolding entries_right
   header-6 i l a b = sym (right i l ∙ rw (a, b))
 

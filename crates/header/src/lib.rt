@@ -2,11 +2,11 @@
 #![tactic(auto)]
 
 ghost use Rattle.std.specs.Prelude.{◌≡◌, true, ◌≤◌, ◌<◌, length, drop};
-ghost use Rattle.model.specs.Image.{length_fits, marked, trailer_of, table_fits, starts_fit, tables_of, others_fit, sizes_fit, entries_fit};
-ghost use Rattle.image.specs.Located.{Located, header_verdict};
+ghost use Rattle.model.specs.Image.{length_fits, marked, trailer_of, table_fits, starts_fit, others_fit, sizes_fit, entries_fit};
+ghost use Rattle.image.specs.Located.{tables, Located, header_verdict};
 
-use image::{parameter, size, trailer, type_count, variable_count, variable_type};
-use model::{Image, Refusal, Verdict};
+use image::{Automaton, trailer};
+use model::{Image, Refusal};
 
 fn length_fits(image: &[u8]) -> bool
     ensures { result ≡ length_fits image.now }
@@ -18,18 +18,18 @@ fn length_fits(image: &[u8]) -> bool
 }
 
 // The mark 4E 54, and the length field.
-fn marked(image: &[u8], i: Image) -> bool
-    requires { (length_fits image.now ≡ true) × (i ≡ trailer_of image.now) }
-    ensures { result ≡ marked image.now }
+fn marked(x: &Automaton) -> bool
+    requires { (length_fits x.now.image.now ≡ true) × (x.now.trailer ≡ trailer_of x.now.image.now) }
+    ensures { result ≡ marked x.now.image.now }
 {
-    let n = image.len();
-    if image[n - 2] != 0x4E {
+    let n = x.image.len();
+    if x.image[n - 2] != 0x4E {
         return false;
     }
-    if image[n - 1] != 0x54 {
+    if x.image[n - 1] != 0x54 {
         return false;
     }
-    i.length as usize == n
+    x.trailer.length as usize == n
 }
 
 fn table_fits(start: u16, end: u16, size: u16, least: u16, most: u16) -> bool
@@ -80,77 +80,62 @@ fn starts_fit(i: Image) -> bool
     i.gates <= Image::GATES
 }
 
-// Types from t on, which are neither bool nor int.
-fn others_fit(image: &[u8], i: Image) -> bool
-    requires { Located image.now i }
-    ensures { result ≡ others_fit (drop 2 (tables_of image.now).sizes) }
+// The types from 2 on, which are neither bool nor int.
+fn others_fit(x: &Automaton) -> bool
+    requires { Located x.now.image.now x.now.trailer }
+    ensures { result ≡ others_fit (drop 2 (tables x.now).sizes) }
 {
-    let n = type_count(image, i);
-    let mut t: u16 = 2;
-    while t < n {
-        let k = size(image, i, t);
-        if k < Image::VALUES_LEAST {
-            return false;
-        }
-        if Image::VALUES < k {
-            return false;
-        }
-        t += 1;
-    }
-    true
+    let n = x.type_count();
+    (2..n).all(|t| {
+        let k = x.size(t);
+        Image::VALUES_LEAST <= k && k <= Image::VALUES
+    })
 }
 
-fn sizes_fit(image: &[u8], i: Image) -> bool
-    requires { Located image.now i }
-    ensures { result ≡ sizes_fit (tables_of image.now).sizes }
+fn sizes_fit(x: &Automaton) -> bool
+    requires { Located x.now.image.now x.now.trailer }
+    ensures { result ≡ sizes_fit (tables x.now).sizes }
 {
-    if size(image, i, 0) != 2 {
+    if x.size(0) != 2 {
         return false;
     }
-    if size(image, i, 1) != 0 {
+    if x.size(1) != 0 {
         return false;
     }
-    others_fit(image, i)
+    others_fit(x)
 }
 
-fn entries_fit(image: &[u8], i: Image) -> bool
-    requires { Located image.now i }
-    ensures { result ≡ entries_fit (length (tables_of image.now).sizes) (tables_of image.now).variables }
+fn entries_fit(x: &Automaton) -> bool
+    requires { Located x.now.image.now x.now.trailer }
+    ensures { result ≡ entries_fit (length (tables x.now).sizes) (tables x.now).variables }
 {
-    let types = type_count(image, i);
-    let n = variable_count(image, i);
-    let mut v: u16 = 0;
-    while v < n {
-        if types <= variable_type(image, i, v) {
-            return false;
-        }
-        if 1 < parameter(image, i, v) {
-            return false;
-        }
-        v += 1;
-    }
-    true
+    let types = x.type_count();
+    let n = x.variable_count();
+    (0..n).all(|v| x.variable_type(v) < types && x.parameter(v) <= 1)
 }
 
 // 1 to 4, the first that is met.
-pub fn header(image: &[u8]) -> Verdict
+pub fn header(image: &[u8]) -> Result<(), Refusal>
     ensures { result ≡ header_verdict image.now }
 {
     if !length_fits(image) {
-        return Verdict::Refused(Refusal::ImageLength);
+        return Err(Refusal::ImageLength);
     }
-    let i = trailer(image);
-    if !marked(image, i) {
-        return Verdict::Refused(Refusal::MarkOrLength);
+    let x = Automaton {
+        image,
+        trailer: trailer(image),
+    };
+    if !marked(&x) {
+        return Err(Refusal::MarkOrLength);
     }
-    if !starts_fit(i) {
-        return Verdict::Refused(Refusal::Starts);
+    if !starts_fit(x.trailer) {
+        return Err(Refusal::Starts);
     }
-    if !sizes_fit(image, i) {
-        return Verdict::Refused(Refusal::Entries);
+    if !sizes_fit(&x) {
+        return Err(Refusal::Entries);
     }
-    if !entries_fit(image, i) {
-        return Verdict::Refused(Refusal::Entries);
+    if !entries_fit(&x) {
+        return Err(Refusal::Entries);
     }
-    Verdict::Accepted
+    Ok(())
 }

@@ -1,10 +1,15 @@
 -- An image that has passed 1 to 3, with its trailer: what the readers of its tables ask. Assumes nothing.
 use mathlib.Core.{Path.◌≡◌, Bool.true, List.List}
 use Rattle.std.specs.Prelude.{ℕ, ◌<◌, length, get_or}
-use Rattle.model.specs.declared.{Image.Image, Verdict.Verdict, Refusal.TheVariants.ImageLength, Refusal.TheVariants.MarkOrLength, Refusal.TheVariants.Starts, Refusal.TheVariants.Entries}
-use Rattle.model.specs.Answers.{after, unless}
-use Rattle.model.specs.Image.{none, length_fits, marked, trailer_of, starts_fit, tables_of, entries_right, type_count, variable_count, state_count, row_count}
+use Rattle.model.specs.declared.{Image.Image, Refusal.TheVariants.ImageLength, Refusal.TheVariants.MarkOrLength, Refusal.TheVariants.Starts, Refusal.TheVariants.Entries}
+use Rattle.model.specs.Answers.{after, unless, Verdict}
+use Rattle.model.specs.Image.{Tables, none, length_fits, marked, trailer_of, starts_fit, tables_of, entries_right, type_count, variable_count, state_count, row_count}
+use Rattle.image.specs.declared.{Automaton.Automaton}
 use Rattle.model.specs.Rows.{action, expression, formed, is_root}
+
+-- the tables of an image that code has with its trailer
+abbrev pub tables : Automaton → Tables
+tables x = tables_of x.image.now
 
 pub record Located (s : List ℕ) (i : Image) : Type 0 where
   pub trailer : i ≡ trailer_of s

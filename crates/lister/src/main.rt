@@ -3,17 +3,13 @@
 
 use ended::ended;
 use listing::listing;
-use model::Image;
+use loading::load_image;
 use std::io;
-use std::io::Read;
 
-// One byte more than an image may have is read, so that a longer one is refused.
-const ROOM: u64 = Image::LENGTH as u64 + 1;
-
+// As in explain and draw but for the call: over a closure no plainer, since its bound would have to be asked of it.
 fn main(rt: HostRuntime) -> io::Result<()> {
-    let mut image = Vec::new(rt.alloc());
+    let image = load_image(rt.reader(), rt.alloc())?;
     let mut text = [0u8; 2048];
-    rt.reader().take(ROOM).read_to_end(&mut image)?;
     let end = listing(&image, &mut text);
     ended(rt.write_all(&text[..end]))
 }

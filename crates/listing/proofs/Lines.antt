@@ -1,11 +1,14 @@
 -- The lister's lines, one after another. Assumes nothing.
 use mathlib.Core.{Path.◌≡◌, Path.sym, Path.ap, Path.◌∙◌, List.List, List.[], List.◌∷◌, List.◌++◌, List.append_assoc}
-use Prim.Native.Nat.{ℕ, suc, ◌+◌, ◌<◌}
+use Prim.Native.Nat.{ℕ, suc, ◌+◌, ◌<◌, ◌≤◌}
 use native.Mathlib.{Omega.arith, Numerals.add-one, Nat.add-zero, Nat.zero-add}
-use lib.{ListN.length, ListN.get_or, ListN.take, Seq.take-suc, Seq.length-take-le}
+use lib.{ListN.length, ListN.get_or, ListN.take, ListN.drop, Seq.take-suc, Seq.length-take-le}
 use Rattle.model.specs.Image.{none}
+use Rattle.text.specs.declared.Page.{Page}
+use Rattle.text.specs.Written.{Written}
 use Rattle.model.specs.Exports.{decimal, count, lines}
 use Rattle.text.proofs.Decimal.{decimal-then}
+use Rattle.text.proofs.Writing.{written-whole}
 
 -- a refusal's two numbers
 pub two-numbers : (a b : ℕ) → decimal a (32 ∷ decimal b (10 ∷ [])) ≡ decimal a (32 ∷ []) ++ decimal b (10 ∷ [])
@@ -46,3 +49,11 @@ pub lines_next : (rows : List ℕ) (variables q : ℕ) (sets : List ℕ) → q <
 lines_next rows variables q sets h =
     let e : 0 + length (take q sets) ≡ q = zero-add _ ∙ length-take-le q sets (omega arith) in
     rw (add-one, take-suc sets q 0 h, lines-append, e)
+
+-- a text of a page from its start on that has room for it
+pub whole : {p q : Page} {xs s : List ℕ} → Written xs p q → p.text.now ≡ s → p.«end» ≡ 0 → length xs ≤ length s
+    → (q.«end» ≡ length xs) × (q.text.now ≡ xs ++ drop q.«end» s)
+whole {p} {q} {xs} {s} w e z h =
+    let put = written-whole w (rw (e, z) (omega arith)) in
+    let start : p.«end» + length xs ≡ length xs = rw z (zero-add _) in
+    (put.next ∙ start, put.text ∙ rw (e, z))

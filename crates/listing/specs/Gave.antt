@@ -1,7 +1,7 @@
 -- What the lister has from check. Assumes nothing.
+use Rattle.model.specs.Answers.{Verdict}
 use mathlib.Core.{Path.◌≡◌, List.List}
 use Rattle.std.specs.Prelude.{ℕ, ◌≤◌, length, replicate}
-use Rattle.model.specs.declared.Verdict.{Verdict}
 use Rattle.model.specs.Limits.{limits}
 use Rattle.model.specs.Calls.{check}
 

@@ -1,9 +1,10 @@
 -- The ways of a case, and of its arms by what the search for one gives. Assumes nothing.
+use Rattle.std.specs.Prelude.{Option, Some, None}
 use mathlib.Core.{Path.◌≡◌, Path.refl, Path.sym, Path.ap, Path.◌∙◌, Path.subst, Bool.cond, List.List}
 use Prim.Native.Nat.{ℕ, ◌<◌}
 use native.Mathlib.Omega.{arith}
 use lib.IntN.{ℤ}
-use Rattle.model.specs.declared.{Value.Value, Value.TheVariants.Is, Value.TheVariants.Unknown, Refusal.TheVariants.Blocked, Refusal.TheVariants.BlockedSpoken, Refusal.TheVariants.Undefined, Outcome.TheVariants.Stops}
+use Rattle.model.specs.declared.{Refusal.TheVariants.Blocked, Refusal.TheVariants.BlockedSpoken, Refusal.TheVariants.Undefined, Outcome.TheVariants.Stops}
 use Rattle.model.specs.Answers.{row}
 use Rattle.model.specs.Image.{tables_of}
 use Rattle.model.specs.Rows.{action}
@@ -28,7 +29,7 @@ use Rattle.machine.proofs.Ways.{ran, answered-same, answers-blocked}
 
 -- ---- a case
 module _ {s : List ℕ} {rows : ℕ} {a b : ℕ} {m values : List ℤ} (h : RunningCase s rows a b m values) where
-  pub case-arms : {v : Value} {z : ℤ} → v ≡ eval (tables_of s) (expression_at (tables_of s) a) m → v ≡ Is z → RunningArms s rows b (held z) m values
+  pub case-arms : {v : Option ℤ} {z : ℤ} → v ≡ eval (tables_of s) (expression_at (tables_of s) a) m → v ≡ Some z → RunningArms s rows b (held z) m values
   case-arms {v} {z} e f =
       let x = tables_of s in
       let w = all h.subject.ready in
@@ -46,8 +47,8 @@ module _ {s : List ℕ} {rows : ℕ} {a b : ℕ} {m values : List ℤ} (h : Runn
         room = h.list.room;
       }
 
-  module _ (script : List ℕ) (r : ℕ) (run : Run) {v : Value} (e : v ≡ eval (tables_of s) (expression_at (tables_of s) a) m) where
-    pub case-is : {z : ℤ} {q : Res} → v ≡ Is z
+  module _ (script : List ℕ) (r : ℕ) (run : Run) {v : Option ℤ} (e : v ≡ eval (tables_of s) (expression_at (tables_of s) a) m) where
+    pub case-is : {z : ℤ} {q : Res} → v ≡ Some z
         → q ≡ exec_arms (tables_of s) (arms_of (tables_of s) (action_at (tables_of s)) (list_at (tables_of s) b)) (held z) script r (state_of run m values)
         → q ≡ exec_act (tables_of s) (case (expression_at (tables_of s) a) (arms_of (tables_of s) (action_at (tables_of s)) (list_at (tables_of s) b))) script r (state_of run m values)
     unfolding exec
@@ -55,7 +56,7 @@ module _ {s : List ℕ} {rows : ℕ} {a b : ℕ} {m values : List ℤ} (h : Runn
         g ∙ ap (λ (y : ℤ). exec_arms (tables_of s) (arms_of (tables_of s) (action_at (tables_of s)) (list_at (tables_of s) b)) y script r (state_of run m values)) (local-is (runs h.subject) e f)
         ∙ sym (valued-is _ r (state_of run m values) _ z (sym e ∙ f))
 
-    pub case-unknown : {q : Ran} → v ≡ Unknown → q ≡ ran (Stops (Undefined (row r))) run
+    pub case-unknown : {q : Ran} → v ≡ None → q ≡ ran (Stops (Undefined (row r))) run
         → result_of q m values ≡ exec_act (tables_of s) (case (expression_at (tables_of s) a) (arms_of (tables_of s) (action_at (tables_of s)) (list_at (tables_of s) b))) script r (state_of run m values)
     unfolding exec
     case-unknown f g = answered-same _ run g refl refl ∙ sym (valued-unknown _ r (state_of run m values) _ (sym e ∙ f))

@@ -1,9 +1,10 @@
 -- The ways of the loops' helpers: a unit for a further test, V := V + 1, V <= high. Assumes nothing.
+use Rattle.std.specs.Prelude.{Option, Some, None}
 use mathlib.Core.{Path.◌≡◌, Path.sym, Path.ap, Path.◌∙◌, Path.subst, Bool.Bool, Bool.true, Bool.false, Bool.cond, List.List}
-use Prim.Native.Nat.{ℕ, ◌+◌, ◌-◌, ◌^◌, ◌≤◌, ◌<◌}
+use Prim.Native.Nat.{ℕ, ◌-◌, ◌^◌, ◌≤◌, ◌<◌}
 use native.Mathlib.Omega.{arith}
-use lib.{IntN.ℤ, IntN.pos, ListN.length, ListN.length-set, ListN.get_or, ListN.set, Signed.mag, Signed.le_z}
-use Rattle.model.specs.declared.{Fields.Fields, Refusal.Refusal, Refusal.TheVariants.Blocked, Refusal.TheVariants.BlockedSpoken, Refusal.TheVariants.Undefined, Refusal.TheVariants.BudgetSpent, Value.Value, Value.TheVariants.Is, Value.TheVariants.Unknown, Tested.TheVariants.Holds, Tested.TheVariants.Fails, Tested.TheVariants.Unsure, Outcome.Outcome, Outcome.TheVariants.Ends, Outcome.TheVariants.Stops}
+use lib.{IntN.ℤ, IntN.pos, ListN.get_or, ListN.set, Signed.mag, Signed.le_z}
+use Rattle.model.specs.declared.{Fields.Fields, Refusal.Refusal, Refusal.TheVariants.Blocked, Refusal.TheVariants.BlockedSpoken, Refusal.TheVariants.Undefined, Refusal.TheVariants.BudgetSpent, Tested.TheVariants.Holds, Tested.TheVariants.Fails, Tested.TheVariants.Unsure, Outcome.Outcome, Outcome.TheVariants.Ends, Outcome.TheVariants.Stops}
 use Rattle.model.specs.Answers.{row, variable, number}
 use Rattle.model.specs.Values.{half16, mark, is_zero, of_bool, plus}
 use Rattle.model.specs.Image.{Tables, int, tables_of, fields_of}
@@ -18,10 +19,9 @@ use Rattle.expressions.specs.Operators.{value_of}
 use Rattle.actions.specs.declared.{Run.Run, Ran.Ran}
 use Rattle.actions.specs.State.{state_of, result_of}
 use Rattle.expressions.specs.Ready.{Runs}
-use Rattle.told.specs.Told.{run_of, ran_of}
+use Rattle.told.specs.Told.{ran_of}
 use Rattle.told.proofs.Coded.{out-ends}
 use Rattle.simple.proofs.Acts.{null-way, result_as}
-use Rattle.told.proofs.Kept.{set-left, set_words}
 use Rattle.machine.specs.Running.{Turned, SlotOf, Onward, AtMost}
 use Rattle.machine.proofs.Ways.{ran, answered, answered-same, then-over}
 
@@ -53,23 +53,23 @@ pub again-over : (r : ℕ) {q : Ran} → (q.out ≡ Ends → ⊥) → Turned r q
 again-over r {q} f = record { does = λ g m values. sym (then-over (result_of q m values) _ f) }
 
 -- ---- V's value
-module _ (x : Tables) (h : x.half ≡ half16) (m : List ℤ) (v : ℕ) {y : Value} (e : y ≡ value_of (get_or m v (mark half16))) where
+module _ (x : Tables) (h : x.half ≡ half16) (m : List ℤ) (v : ℕ) {y : Option ℤ} (e : y ≡ value_of (get_or m v (mark half16))) where
   var-is : eval x (var (variable v)) m ≡ y
   unfolding eval defined slot value_of
   var-is = rw h (sym e)
 
-  both_is : (o : Binary) (k z : ℤ) → y ≡ Is z → eval x (binary o (var (variable v)) (const int k)) m ≡ Is (apply_binary half16 o z k)
+  both_is : (o : Binary) (k z : ℤ) → y ≡ Some z → eval x (binary o (var (variable v)) (const int k)) m ≡ Some (apply_binary half16 o z k)
   unfolding eval
   both_is o k z f =
-      ap (λ (u : Value). elim u [ Is a ↦ Is (apply_binary x.half o a k) | Unknown ↦ Unknown ]) (var-is ∙ f)
-      ∙ ap (λ (n : ℕ). Is (apply_binary n o z k)) h
+      ap (λ (u : Option ℤ). elim u [ Some a ↦ Some (apply_binary x.half o a k) | None ↦ None ]) (var-is ∙ f)
+      ∙ ap (λ (n : ℕ). Some (apply_binary n o z k)) h
 
-  both-unknown : (o : Binary) (k : ℤ) → y ≡ Unknown → eval x (binary o (var (variable v)) (const int k)) m ≡ Unknown
+  both-unknown : (o : Binary) (k : ℤ) → y ≡ None → eval x (binary o (var (variable v)) (const int k)) m ≡ None
   unfolding eval
-  both-unknown o k f = ap (λ (u : Value). elim u [ Is a ↦ Is (apply_binary x.half o a k) | Unknown ↦ Unknown ]) (var-is ∙ f)
+  both-unknown o k f = ap (λ (u : Option ℤ). elim u [ Some a ↦ Some (apply_binary x.half o a k) | None ↦ None ]) (var-is ∙ f)
 
 -- ---- V := V + 1
-module _ {o : Outcome} {v : ℕ} {m : List ℤ} (s : SlotOf o v m) (f : o ≡ Ends) {y : Value} {z : ℤ} (e : y ≡ value_of (get_or m v (mark half16))) (g : y ≡ Is z) where
+module _ {o : Outcome} {v : ℕ} {m : List ℤ} (s : SlotOf o v m) (f : o ≡ Ends) {y : Option ℤ} {z : ℤ} (e : y ≡ value_of (get_or m v (mark half16))) (g : y ≡ Some z) where
   value-int : mag z < 32768
   value-int = s.int f z (sym e ∙ g)
 
@@ -82,8 +82,8 @@ module _ {o : Outcome} {v : ℕ} {m : List ℤ} (s : SlotOf o v m) (f : o ≡ En
 pub onward-over : (r v : ℕ) {o : Outcome} {m : List ℤ} → (o ≡ Ends → ⊥) → Onward r v o m o m
 onward-over r v {o} {m} f = record { does = λ x h run values. sym (then-over (result_of (ran o run) m values) _ f) }
 
-module _ (r v : ℕ) {o : Outcome} {m : List ℤ} (f : o ≡ Ends) {y : Value} (e : y ≡ value_of (get_or m v (mark half16))) where
-  pub onward-unknown : {p : Outcome} → y ≡ Unknown → p ≡ Stops (Undefined (row r)) → Onward r v o m p m
+module _ (r v : ℕ) {o : Outcome} {m : List ℤ} (f : o ≡ Ends) {y : Option ℤ} (e : y ≡ value_of (get_or m v (mark half16))) where
+  pub onward-unknown : {p : Outcome} → y ≡ None → p ≡ Stops (Undefined (row r)) → Onward r v o m p m
   unfolding storing
   onward-unknown g k = record {
     does = λ x h run values.
@@ -91,7 +91,7 @@ module _ (r v : ℕ) {o : Outcome} {m : List ℤ} (f : o ≡ Ends) {y : Value} (
         ∙ sym (then-ends (result_of (ran o run) m values) _ f ∙ valued-unknown _ r (state_of run m values) _ (both-unknown x h m v e (arithmetic Plus) (pos 1) g));
   }
 
-  pub onward-is : {p : Outcome} {z k : ℤ} → p ≡ Ends → y ≡ Is z → k ≡ plus half16 z (pos 1) → Onward r v o m p (set m v k)
+  pub onward-is : {p : Outcome} {z k : ℤ} → p ≡ Ends → y ≡ Some z → k ≡ plus half16 z (pos 1) → Onward r v o m p (set m v k)
   unfolding storing store apply_binary
   onward-is {p} {z} {k} q g l = record {
     does = λ x h run values.
@@ -100,20 +100,20 @@ module _ (r v : ℕ) {o : Outcome} {m : List ℤ} (f : o ≡ Ends) {y : Value} (
   }
 
 -- ---- V <= high
-module _ (v : ℕ) (high : ℤ) {m : List ℤ} {y : Value} (e : y ≡ value_of (get_or m v (mark half16))) where
-  pub most-unsure : y ≡ Unknown → AtMost v high m Unsure
+module _ (v : ℕ) (high : ℤ) {m : List ℤ} {y : Option ℤ} (e : y ≡ value_of (get_or m v (mark half16))) where
+  pub most-unsure : y ≡ None → AtMost v high m Unsure
   unfolding test
   most-unsure f = record {
     is = λ x h.
-        sym (ap (λ (u : Value). elim u [ Is a ↦ elim (is_zero a) [ true ↦ Fails | false ↦ Holds ] | Unknown ↦ Unsure ]) (both-unknown x h m v e (comparison is_at_most) high f));
+        sym (ap (λ (u : Option ℤ). elim u [ Some a ↦ elim (is_zero a) [ true ↦ Fails | false ↦ Holds ] | None ↦ Unsure ]) (both-unknown x h m v e (comparison is_at_most) high f));
   }
 
-  module _ {z : ℤ} (f : y ≡ Is z) where
+  module _ {z : ℤ} (f : y ≡ Some z) where
     most-as : (b : Bool) → le_z z high ≡ b → AtMost v high m (elim (is_zero (of_bool b)) [ true ↦ Fails | false ↦ Holds ])
     unfolding test apply_binary
     most-as b g = record {
       is = λ x h.
-          sym (ap (λ (u : Value). elim u [ Is a ↦ elim (is_zero a) [ true ↦ Fails | false ↦ Holds ] | Unknown ↦ Unsure ]) (both_is x h m v e (comparison is_at_most) high z f)
+          sym (ap (λ (u : Option ℤ). elim u [ Some a ↦ elim (is_zero a) [ true ↦ Fails | false ↦ Holds ] | None ↦ Unsure ]) (both_is x h m v e (comparison is_at_most) high z f)
           ∙ ap (λ (c : Bool). elim (is_zero (of_bool c)) [ true ↦ Fails | false ↦ Holds ]) g);
     }
 
@@ -128,32 +128,21 @@ pub held-most : (z high : ℤ) {b : Bool} → mag z < 2 ^ 31 → mag high < 2 ^ 
 held-most z high k l e = sym (λ j. le_z (held-is z k j) (held-is high l j)) ∙ e
 
 -- ---- null
-pub null-told : {s : List ℕ} {rows r : ℕ} {m : List ℤ} → Runs action s rows r m → {w : Fields} → w ≡ fields_of (tables_of s) r → (l : List ℕ) (values : List ℤ) (script : List ℕ)
-    → w.code ≡ 48 → result_of (ran_of 0 l) m values ≡ exec_act (tables_of s) (act_of (action_at (tables_of s) r)) script r (state_of (run_of l) m values)
-null-told {m = m} h e l values script c =
-    result_as 0 l m values out-ends
-    (null-way h e (run_of l) values script (omega arith) (λ k. omega arith) (λ k. omega arith) (λ k. omega arith) (λ k. omega arith) (λ k. omega arith))
+pub null-told : {s : List ℕ} {rows r : ℕ} {m : List ℤ} → Runs action s rows r m → {w : Fields} → w ≡ fields_of (tables_of s) r → (run : Run) (values : List ℤ) (script : List ℕ)
+    → w.code ≡ 48 → result_of (ran_of 0 run) m values ≡ exec_act (tables_of s) (act_of (action_at (tables_of s) r)) script r (state_of run m values)
+null-told {m = m} h e run values script c =
+    result_as 0 run m values out-ends
+    (null-way h e run values script (omega arith) (λ k. omega arith) (λ k. omega arith) (λ k. omega arith) (λ k. omega arith) (λ k. omega arith))
 
--- ---- the state in its slots
-pub set-length : (l l' : List ℕ) (i n : ℕ) → l' ≡ set l i n → length l' ≡ length l
-set-length l l' i n e = ap length e ∙ length-set l i n
-
+-- ---- an outcome told
 pub told-as : {o p : Outcome} (run : Run) → o ≡ p → ran o run ≡ ran p run
 told-as run e = ap (λ (u : Outcome). ran u run) e
 
-pub paid : (l l' : List ℕ) → 5 ≤ length l → l' ≡ set l 1 ((run_of l).left - 1)
-    → run_of l' ≡ record { words = (run_of l).words; left = (run_of l).left - 1; spoken = (run_of l).spoken; gate = (run_of l).gate; count = (run_of l).count }
-paid l l' h e = ap run_of e ∙ set-left l ((run_of l).left - 1) h
+-- the same state, its parts the same
+pub run-same : {o p : Outcome} {run now : Run} {m n values vs : List ℤ} → ran o now ≡ ran p now → n ≡ m → vs ≡ values → now ≡ run
+    → result_of (ran o now) n vs ≡ gives p (state_of run m values)
+run-same {p = p} {m = m} {values = values} e f g h = answered-same p _ e f g ∙ ap (λ (u : Run). gives p (state_of u m values)) h
 
-pub heard : (l l' : List ℕ) → 5 ≤ length l → l' ≡ set l 0 ((run_of l).words + 1)
-    → run_of l' ≡ record { words = (run_of l).words + 1; left = (run_of l).left; spoken = (run_of l).spoken; gate = (run_of l).gate; count = (run_of l).count }
-heard l l' h e = ap run_of e ∙ set_words l ((run_of l).words + 1) h
-
--- the same lists
-pub run-same : {o p : Outcome} {l l' : List ℕ} {m n values vs : List ℤ} → ran o (run_of l') ≡ ran p (run_of l') → n ≡ m → vs ≡ values → l' ≡ l
-    → result_of (ran o (run_of l')) n vs ≡ gives p (state_of (run_of l) m values)
-run-same {p = p} {m = m} {values = values} e f g h = answered-same p _ e f g ∙ ap (λ (k : List ℕ). gives p (state_of (run_of k) m values)) h
-
-pub from-same : (x : Tables) (a : Action) (script : List ℕ) {l l' : List ℕ} {m n values vs : List ℤ} → n ≡ m → vs ≡ values → l' ≡ l
-    → exec x a script (state_of (run_of l') n vs) ≡ exec x a script (state_of (run_of l) m values)
-from-same x a script f g h = λ j. exec x a script (state_of (run_of (h j)) (f j) (g j))
+pub from-same : (x : Tables) (a : Action) (script : List ℕ) {run now : Run} {m n values vs : List ℤ} → n ≡ m → vs ≡ values → now ≡ run
+    → exec x a script (state_of now n vs) ≡ exec x a script (state_of run m values)
+from-same x a script f g h = λ j. exec x a script (state_of (h j) (f j) (g j))

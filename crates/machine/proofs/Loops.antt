@@ -1,10 +1,11 @@
 -- The ways of a while and of a for, from their first test or from any later one. Assumes nothing.
+use Rattle.std.specs.Prelude.{Some}
 use mathlib.Core.{Path.◌≡◌, Path.refl, Path.sym, Path.ap, Path.◌∙◌, Path.subst, List.List}
 use Prim.Native.Nat.{ℕ, zero, suc, ◌≤◌, ◌<◌}
 use native.Mathlib.Omega.{arith}
 use lib.{IntN.ℤ, IntN.pos, ListN.length, ListN.set, Signed.mag}
 use borrow.Author.Tests.{ltb-true}
-use Rattle.model.specs.declared.{Fields.Fields, State.State, Variable.Variable, Value.TheVariants.Is, Tested.Tested, Tested.TheVariants.Holds, Tested.TheVariants.Fails, Tested.TheVariants.Unsure, Refusal.Refusal, Refusal.TheVariants.Undefined, Refusal.TheVariants.BudgetSpent, Outcome.Outcome, Outcome.TheVariants.Ends, Outcome.TheVariants.Jumps, Outcome.TheVariants.Stops}
+use Rattle.model.specs.declared.{Fields.Fields, State.State, Variable.Variable, Tested.Tested, Tested.TheVariants.Holds, Tested.TheVariants.Fails, Tested.TheVariants.Unsure, Refusal.Refusal, Refusal.TheVariants.Undefined, Refusal.TheVariants.BudgetSpent, Outcome.Outcome, Outcome.TheVariants.Ends, Outcome.TheVariants.Jumps, Outcome.TheVariants.Stops}
 use Rattle.model.specs.Answers.{row, variable}
 use Rattle.model.specs.Bytes.{signed}
 use Rattle.model.specs.Values.{half16}
@@ -200,7 +201,7 @@ onward-typed x w v r u i t k =
     valued-rule (λ q. q.out ≡ Ends → TypedStore x q.st.store) _ r u _
     (λ z e o. good z e (onward-good x w v i t)) (λ e o. apart-stops _ o _ refl)
   where
-    good : (z : ℤ) → eval x (binary (arithmetic Plus) (var v) (const int (pos 1))) u.store ≡ Is z → All (GoodGets x) (onward v) → TypedStore x (store u.store v z)
+    good : (z : ℤ) → eval x (binary (arithmetic Plus) (var v) (const int (pos 1))) u.store ≡ Some z → All (GoodGets x) (onward v) → TypedStore x (store u.store v z)
     good z e (cons g nil) =
         store-typed x u.store v z g.inside k (subst (λ (n : ℕ). OfType x n z) g.typed (eval-typed x w _ u.store z g.good k e))
 

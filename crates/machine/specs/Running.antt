@@ -1,8 +1,8 @@
 -- What the run of an action asks, and what its helpers give. Assumes nothing.
 use mathlib.Core.{Path.◌≡◌, Logic.◌⊎◌, Bool.true, List.List}
-use Rattle.std.specs.Prelude.{ℕ, ◌≤◌, ◌<◌}
+use Rattle.std.specs.Prelude.{ℕ, ◌≤◌, ◌<◌, Some}
 use lib.{IntN.ℤ, ListN.length, ListN.get_or, Signed.mag}
-use Rattle.model.specs.declared.{Value.TheVariants.Is, Outcome.Outcome, Outcome.TheVariants.Ends, Tested.Tested}
+use Rattle.model.specs.declared.{Outcome.Outcome, Outcome.TheVariants.Ends, Tested.Tested}
 use Rattle.model.specs.Answers.{variable}
 use Rattle.model.specs.Values.{half16, mark}
 use Rattle.model.specs.Image.{Tables, none, int, trailer_of, tables_of, fields_of, type_of}
@@ -64,7 +64,7 @@ pub record Turned (r : ℕ) (q p : Ran) : Type 0 where
 -- the slot of v; after a body that ended it holds an int, if it is defined
 pub record SlotOf (o : Outcome) (v : ℕ) (m : List ℤ) : Type 0 where
   pub inside : v < length m
-  pub int : o ≡ Ends → (z : ℤ) → value_of (get_or m v (mark half16)) ≡ Is z → mag z < 32768
+  pub int : o ≡ Ends → (z : ℤ) → value_of (get_or m v (mark half16)) ≡ Some z → mag z < 32768
 
 -- V := V + 1 from the store m to the store n, after a body that ended
 pub record Onward (r v : ℕ) (o : Outcome) (m : List ℤ) (p : Outcome) (n : List ℤ) : Type 0 where

@@ -1,8 +1,8 @@
 // The run of an action, on a working copy of the store: one attempt. Running an action and running the branches or arms it
-// holds lead into each other. A run's state stands in slots, and how it ended is a number (crate told).
+// holds lead into each other. How a run ended is a number (crate told).
 #![tactic(auto)]
 
-ghost use Rattle.std.specs.Prelude.{◌≡◌, cond, suc, ◌+◌, ◌-◌, ◌/◌, ◌^◌, ◌≤◌, ◌<◌, leb, pos, length};
+ghost use Rattle.std.specs.Prelude.{◌≡◌, cond, suc, ◌-◌, ◌/◌, ◌^◌, ◌<◌, leb, pos, length};
 ghost use Rattle.model.specs.declared.{Refusal.TheVariants.Blocked, Refusal.TheVariants.BlockedSpoken, Outcome.TheVariants.Stops};
 ghost use Rattle.model.specs.Answers.{row};
 ghost use Rattle.model.specs.Image.{tables_of, fields_of};
@@ -12,34 +12,34 @@ ghost use Rattle.model.specs.Trees.{select, case};
 ghost use Rattle.model.specs.Run.{eval, test, and_then, looping, exec, exec_act, exec_branch, exec_arms};
 ghost use Rattle.expressions.specs.Ready.{Runs};
 ghost use Rattle.actions.specs.State.{state_of};
-ghost use Rattle.told.specs.Told.{run_of, outcome_of, ran_of, Tells, Told, Leaves};
+ghost use Rattle.told.specs.Told.{outcome_of, ran_of, Tells, Told, Leaves};
 ghost use Rattle.machine.specs.Running.{Running, RunningList, RunningCase, RunningArms, RunningLoop, RunningFor, SlotOf, Turned, Onward, AtMost};
 
-use actions::blocked_at;
+use actions::{Run, blocked_at};
 use expressions::{eval, row, test, value};
-use model::{Image, Refusal, Row, Tested, Value};
+use model::{Image, Refusal, Row, Tested};
 use patterns::{Found, find_arm};
 use simple::run_simple;
-use told::{ENDS, Slots, Values, charge, hear, left, spoken, stopped, words};
+use told::{ENDS, Values, charge, hear, stopped};
 use values::{plus, signed, size};
 use words::word;
 
 // Blocked, before or after communicating.
-fn blocked(r: u16, run: &Slots) -> u32
-    ensures { Tells result (Stops (cond (run_of run.now).spoken (BlockedSpoken (row r)) (Blocked (row r)))) }
+fn blocked(r: u16, run: &Run) -> u32
+    ensures { Tells result (Stops (cond run.now.spoken (BlockedSpoken (row r)) (Blocked (row r)))) }
 {
-    stopped(blocked_at(r, spoken(run)))
+    stopped(blocked_at(r, run.spoken))
 }
 
 // One unit for a further test, where the body ended.
-fn again(r: u16, p: u32, run: &mut Slots) -> u32
-    requires { Told p × (5 ≤ length run.old) }
-    ensures { Told result × Turned r (ran_of p run.old) (ran_of result run.new) × (length run.new ≡ length run.old) }
+fn again(r: u16, p: u32, run: &mut Run) -> u32
+    requires { Told p }
+    ensures { Told result × Turned r (ran_of p run.old) (ran_of result run.new) }
 {
     if p != ENDS {
         return p;
     }
-    if left(run) == 0 {
+    if run.left == 0 {
         return stopped(Refusal::BudgetSpent(Row(r)));
     }
     charge(run);
@@ -55,16 +55,16 @@ fn onward(r: u16, v: u16, p: u32, store: &mut [i32]) -> u32
         return p;
     }
     match value(store, v) {
-        Value::Is(z) => {
+        Some(z) => {
             store[v as usize] = plus(Image::HALF, z, 1);
             ENDS
         }
-        Value::Unknown => stopped(Refusal::Undefined(Row(r))),
+        None => stopped(Refusal::Undefined(Row(r))),
     }
 }
 
-// eval and test where the store is lent to be changed, and isn't.
-fn eval_on(image: &[u8], rows: u16, e: u16, store: &mut [i32]) -> Value
+// eval and test of a store behind a &mut, which can be lent to be changed only (docs/DECISIONS.md, 71).
+fn eval_on(image: &[u8], rows: u16, e: u16, store: &mut [i32]) -> Option<i32>
     requires { Runs expression image.now rows e store.old }
     ensures { (result ≡ eval (tables_of image.now) (expression_at (tables_of image.now) e) store.old) × (store.new ≡ store.old) }
 {
@@ -84,14 +84,14 @@ fn at_most(store: &mut [i32], v: u16, high: i32) -> Tested
     ensures { AtMost v high store.old result × (store.new ≡ store.old) }
 {
     match value(store, v) {
-        Value::Is(z) => {
+        Some(z) => {
             if z <= high {
                 Tested::Holds
             } else {
                 Tested::Fails
             }
         }
-        Value::Unknown => Tested::Unsure,
+        None => Tested::Unsure,
     }
 }
 
@@ -111,12 +111,12 @@ pub fn run_action(
     store: &mut &mut [i32],
     script: &&[u8],
     values: &mut Values,
-    run: &mut Slots,
+    run: &mut Run,
 ) -> u32
-    requires { Running action image.now.now rows r store.old.now values.old × (5 ≤ length run.old) }
-    ensures { Leaves result run.old run.new store.old.now store.new.now values.old values.new (exec (tables_of image.now.now) (action_at (tables_of image.now.now) r) script.now.now (state_of (run_of run.old) store.old.now values.old)) }
+    requires { Running action image.now.now rows r store.old.now values.old }
+    ensures { Leaves result run.new store.old.now store.new.now values.old values.new (exec (tables_of image.now.now) (action_at (tables_of image.now.now) r) script.now.now (state_of run.old store.old.now values.old)) }
 {
-    if left(run) == 0 {
+    if run.left == 0 {
         return stopped(Refusal::BudgetSpent(Row(r)));
     }
     charge(run);
@@ -142,10 +142,10 @@ fn run_both(
     store: &mut &mut [i32],
     script: &&[u8],
     values: &mut Values,
-    run: &mut Slots,
+    run: &mut Run,
 ) -> u32
-    requires { (Running action image.now.now rows a store.old.now values.old × Running action image.now.now rows b store.old.now values.old) × (5 ≤ length run.old) }
-    ensures { Leaves result run.old run.new store.old.now store.new.now values.old values.new (and_then (exec (tables_of image.now.now) (action_at (tables_of image.now.now) a) script.now.now (state_of (run_of run.old) store.old.now values.old)) (exec (tables_of image.now.now) (action_at (tables_of image.now.now) b) script.now.now)) }
+    requires { Running action image.now.now rows a store.old.now values.old × Running action image.now.now rows b store.old.now values.old }
+    ensures { Leaves result run.new store.old.now store.new.now values.old values.new (and_then (exec (tables_of image.now.now) (action_at (tables_of image.now.now) a) script.now.now (state_of run.old store.old.now values.old)) (exec (tables_of image.now.now) (action_at (tables_of image.now.now) b) script.now.now)) }
 {
     let n = run_action(image, rows, a, store, script, values, run);
     if n != ENDS {
@@ -164,15 +164,15 @@ fn run_select(
     store: &mut &mut [i32],
     script: &&[u8],
     values: &mut Values,
-    run: &mut Slots,
+    run: &mut Run,
 ) -> u32
-    requires { RunningList branch image.now.now rows a store.old.now values.old × (5 ≤ length run.old) }
-    ensures { Leaves result run.old run.new store.old.now store.new.now values.old values.new (exec_act (tables_of image.now.now) (select (branches_of (tables_of image.now.now) (action_at (tables_of image.now.now)) (list_at (tables_of image.now.now) a))) script.now.now r (state_of (run_of run.old) store.old.now values.old)) }
+    requires { RunningList branch image.now.now rows a store.old.now values.old }
+    ensures { Leaves result run.new store.old.now store.new.now values.old values.new (exec_act (tables_of image.now.now) (select (branches_of (tables_of image.now.now) (action_at (tables_of image.now.now)) (list_at (tables_of image.now.now) a))) script.now.now r (state_of run.old store.old.now values.old)) }
 {
     if a == Image::NONE {
         return blocked(r, run);
     }
-    let k = words(run);
+    let k = run.words;
     if no_word(*script, k) {
         return stopped(Refusal::ScriptEnded(Row(r)));
     }
@@ -184,7 +184,8 @@ fn run_select(
     run_branches(image, rows, r, a, size(z), store, script, values, run)
 }
 
-// Branch number k, 0 is the first.
+// Branch number k, 0 is the first. The list goes from row to row by their next fields: k is counted down, and no range is
+// gone over.
 #[cycle(running)]
 fn run_branches(
     image: &&[u8],
@@ -195,10 +196,10 @@ fn run_branches(
     store: &mut &mut [i32],
     script: &&[u8],
     values: &mut Values,
-    run: &mut Slots,
+    run: &mut Run,
 ) -> u32
-    requires { RunningList branch image.now.now rows first store.old.now values.old × (5 ≤ length run.old) }
-    ensures { Leaves result run.old run.new store.old.now store.new.now values.old values.new (exec_branch (tables_of image.now.now) (branches_of (tables_of image.now.now) (action_at (tables_of image.now.now)) (list_at (tables_of image.now.now) first)) (pos k) script.now.now r (state_of (run_of run.old) store.old.now values.old)) }
+    requires { RunningList branch image.now.now rows first store.old.now values.old }
+    ensures { Leaves result run.new store.old.now store.new.now values.old values.new (exec_branch (tables_of image.now.now) (branches_of (tables_of image.now.now) (action_at (tables_of image.now.now)) (list_at (tables_of image.now.now) first)) (pos k) script.now.now r (state_of run.old store.old.now values.old)) }
 {
     let mut here = first;
     let mut ahead = k;
@@ -226,14 +227,14 @@ fn run_case(
     store: &mut &mut [i32],
     script: &&[u8],
     values: &mut Values,
-    run: &mut Slots,
+    run: &mut Run,
 ) -> u32
-    requires { RunningCase image.now.now rows a b store.old.now values.old × (5 ≤ length run.old) }
-    ensures { Leaves result run.old run.new store.old.now store.new.now values.old values.new (exec_act (tables_of image.now.now) (case (expression_at (tables_of image.now.now) a) (arms_of (tables_of image.now.now) (action_at (tables_of image.now.now)) (list_at (tables_of image.now.now) b))) script.now.now r (state_of (run_of run.old) store.old.now values.old)) }
+    requires { RunningCase image.now.now rows a b store.old.now values.old }
+    ensures { Leaves result run.new store.old.now store.new.now values.old values.new (exec_act (tables_of image.now.now) (case (expression_at (tables_of image.now.now) a) (arms_of (tables_of image.now.now) (action_at (tables_of image.now.now)) (list_at (tables_of image.now.now) b))) script.now.now r (state_of run.old store.old.now values.old)) }
 {
     match eval_on(*image, rows, a, *store) {
-        Value::Is(z) => run_arms(image, rows, r, b, z, store, script, values, run),
-        Value::Unknown => stopped(Refusal::Undefined(Row(r))),
+        Some(z) => run_arms(image, rows, r, b, z, store, script, values, run),
+        None => stopped(Refusal::Undefined(Row(r))),
     }
 }
 
@@ -248,10 +249,10 @@ fn run_arms(
     store: &mut &mut [i32],
     script: &&[u8],
     values: &mut Values,
-    run: &mut Slots,
+    run: &mut Run,
 ) -> u32
-    requires { RunningArms image.now.now rows first z store.old.now values.old × (5 ≤ length run.old) }
-    ensures { Leaves result run.old run.new store.old.now store.new.now values.old values.new (exec_arms (tables_of image.now.now) (arms_of (tables_of image.now.now) (action_at (tables_of image.now.now)) (list_at (tables_of image.now.now) first)) z script.now.now r (state_of (run_of run.old) store.old.now values.old)) }
+    requires { RunningArms image.now.now rows first z store.old.now values.old }
+    ensures { Leaves result run.new store.old.now store.new.now values.old values.new (exec_arms (tables_of image.now.now) (arms_of (tables_of image.now.now) (action_at (tables_of image.now.now)) (list_at (tables_of image.now.now) first)) z script.now.now r (state_of run.old store.old.now values.old)) }
 {
     match find_arm(*image, rows, first, z, *store) {
         Found::Arm(a) => run_action(image, rows, a, store, script, values, run),
@@ -269,16 +270,16 @@ fn run_body(
     store: &mut &mut [i32],
     script: &&[u8],
     values: &mut Values,
-    run: &mut Slots,
+    run: &mut Run,
 ) -> u32
-    requires { Running action image.now.now rows a store.old.now values.old × (5 ≤ length run.old) }
-    ensures { Leaves result run.old run.new store.old.now store.new.now values.old values.new (exec (tables_of image.now.now) (action_at (tables_of image.now.now) a) script.now.now (state_of (run_of run.old) store.old.now values.old)) }
+    requires { Running action image.now.now rows a store.old.now values.old }
+    ensures { Leaves result run.new store.old.now store.new.now values.old values.new (exec (tables_of image.now.now) (action_at (tables_of image.now.now) a) script.now.now (state_of run.old store.old.now values.old)) }
 {
     let w = row(*image, rows, a);
     if w.code != 48 {
         return run_action(image, rows, a, store, script, values, run);
     }
-    if left(run) == 0 {
+    if run.left == 0 {
         return stopped(Refusal::BudgetSpent(Row(a)));
     }
     charge(run);
@@ -296,10 +297,10 @@ fn run_while(
     store: &mut &mut [i32],
     script: &&[u8],
     values: &mut Values,
-    run: &mut Slots,
+    run: &mut Run,
 ) -> u32
-    requires { RunningLoop image.now.now rows r e a store.old.now values.old × (5 ≤ length run.old) }
-    ensures { Leaves result run.old run.new store.old.now store.new.now values.old values.new (looping (suc (run_of run.old).left) (tables_of image.now.now) (expression_at (tables_of image.now.now) e) (exec (tables_of image.now.now) (action_at (tables_of image.now.now) a) script.now.now) r (state_of (run_of run.old) store.old.now values.old)) }
+    requires { RunningLoop image.now.now rows r e a store.old.now values.old }
+    ensures { Leaves result run.new store.old.now store.new.now values.old values.new (looping (suc run.old.left) (tables_of image.now.now) (expression_at (tables_of image.now.now) e) (exec (tables_of image.now.now) (action_at (tables_of image.now.now) a) script.now.now) r (state_of run.old store.old.now values.old)) }
 {
     loop {
         match test_on(*image, rows, e, *store) {
@@ -326,10 +327,10 @@ fn run_for(
     store: &mut &mut [i32],
     script: &&[u8],
     values: &mut Values,
-    run: &mut Slots,
+    run: &mut Run,
 ) -> u32
-    requires { RunningFor image.now.now rows r g a store.old.now values.old × (5 ≤ length run.old) }
-    ensures { Leaves result run.old run.new store.old.now store.new.now values.old values.new (exec_act (tables_of image.now.now) (for_of (fields_of (tables_of image.now.now) g) (action_at (tables_of image.now.now) a)) script.now.now r (state_of (run_of run.old) store.old.now values.old)) }
+    requires { RunningFor image.now.now rows r g a store.old.now values.old }
+    ensures { Leaves result run.new store.old.now store.new.now values.old values.new (exec_act (tables_of image.now.now) (for_of (fields_of (tables_of image.now.now) g) (action_at (tables_of image.now.now) a)) script.now.now r (state_of run.old store.old.now values.old)) }
 {
     let w = row(*image, rows, g);
     let v = w.a;

@@ -11,7 +11,8 @@ use Rattle.model.specs.Rows.{Shape, codes, lookup, shape_of}
 use Rattle.model.proofs.Rows.{both_true, one-true}
 use Rattle.model.proofs.Codes.{shape-past}
 use Rattle.masks.specs.declared.Masks.{Masks}
-use Rattle.masks.specs.Rows.{masks, masks_by, Small}
+use Rattle.masks.specs.Masks.{masks}
+use Rattle.masks.specs.Rows.{masks_by, Small}
 
 -- ---- n numbers from i on: a property of each, a test of each
 abbrev pub Each : (ℕ → Type 0) → ℕ → ℕ → Type 0
@@ -69,9 +70,9 @@ unfolding among arms
 not-among c t =
     rw (ne_eqb c 1 t.0.0.0.0.0.0.0.0.0.0.0.0.0.0.0.1, ne_eqb c 16 (λ e. t.0.0.0.0.0.0.0.0.0.0.0.0.0.0.1 (inl e)), ne_eqb c 19 (λ e. t.0.0.0.0.0.0.0.0.0.0.0.0.0.0.1 (inr e)), ne_eqb c 33 (λ e. t.0.0.0.0.0.0.0.0.0.0.0.0.0.1 (inl e)), ne_eqb c 47 (λ e. t.0.0.0.0.0.0.0.0.0.0.0.0.0.1 (inr e)), ne_eqb c 35 t.0.0.0.0.0.0.0.0.0.0.0.0.1, ne_eqb c 40 t.0.0.0.0.0.0.0.0.0.0.0.1, ne_eqb c 41 t.0.0.0.0.0.0.0.0.0.0.1, ne_eqb c 44 t.0.0.0.0.0.0.0.0.0.1, ne_eqb c 45 t.0.0.0.0.0.0.0.0.1, ne_eqb c 46 t.0.0.0.0.0.0.0.1, ne_eqb c 52 t.0.0.0.0.0.0.1, ne_eqb c 53 t.0.0.0.0.0.1, ne_eqb c 54 (λ e. t.0.0.0.0.1 (inl e)), ne_eqb c 57 (λ e. t.0.0.0.0.1 (inr e)), ne_eqb c 55 t.0.0.0.1, ne_eqb c 56 (λ e. t.0.0.1 (inl e)), ne_eqb c 59 (λ e. t.0.0.1 (inr e)), ne_eqb c 58 t.0.1, ne_eqb c 60 t.1)
 
-module _ (u d l : ℕ → ℕ) (w : Fields) where
+module _ (m : ℕ → Masks) (w : Fields) where
   abbrev At : ℕ → Masks
-  At c = masks_by u d l w (shape_of c).means
+  At c = masks_by m w (shape_of c).means
 
   -- 1
   pub at-variable : w.code ≡ 1 → masks (bit w.a) 0 0 ≡ At w.code
@@ -79,7 +80,7 @@ module _ (u d l : ℕ → ℕ) (w : Fields) where
   at-variable e = sym (ap At e)
 
   -- 16 and 19
-  pub at-unary : (w.code ≡ 16) ⊎ (w.code ≡ 19) → masks (u w.a) 0 0 ≡ At w.code
+  pub at-unary : (w.code ≡ 16) ⊎ (w.code ≡ 19) → masks (m w.a).uses 0 0 ≡ At w.code
   unfolding masks_by shape_of lookup codes
   at-unary e = ⊎_elim (λ p. sym (ap At p)) (λ q. sym (ap At q)) e
 
@@ -89,37 +90,37 @@ module _ (u d l : ℕ → ℕ) (w : Fields) where
   at-bind e = ⊎_elim (λ p. sym (ap At p)) (λ q. sym (ap At q)) e
 
   -- 35
-  pub at-where : w.code ≡ 35 → masks (bit_or (without (u w.b) (d w.a)) (u w.a)) (d w.a) 0 ≡ At w.code
+  pub at-where : w.code ≡ 35 → masks (bit_or (without (m w.b).uses (m w.a).defs) (m w.a).uses) (m w.a).defs 0 ≡ At w.code
   unfolding masks_by shape_of lookup codes join
   at-where e = sym (ap At e)
 
   -- 40
-  pub at-emit : w.code ≡ 40 → masks (join (u w.a) (u w.b)) (d w.b) 0 ≡ At w.code
+  pub at-emit : w.code ≡ 40 → masks (join (m w.a).uses (m w.b).uses) (m w.b).defs 0 ≡ At w.code
   unfolding masks_by shape_of lookup codes
   at-emit e = sym (ap At e)
 
   -- 41
-  pub at-receive : w.code ≡ 41 → masks (join (u w.a) (u w.b)) (join (d w.a) (d w.b)) 0 ≡ At w.code
+  pub at-receive : w.code ≡ 41 → masks (join (m w.a).uses (m w.b).uses) (join (m w.a).defs (m w.b).defs) 0 ≡ At w.code
   unfolding masks_by shape_of lookup codes
   at-receive e = sym (ap At e)
 
   -- 44
-  pub at-gets : w.code ≡ 44 → masks (join (u w.b) (u w.c)) (bit_or (bit w.a) (d w.c)) 0 ≡ At w.code
+  pub at-gets : w.code ≡ 44 → masks (join (m w.b).uses (m w.c).uses) (bit_or (bit w.a) (m w.c).defs) 0 ≡ At w.code
   unfolding masks_by shape_of lookup codes join
   at-gets e = sym (ap At e)
 
   -- 45
-  pub at-of-type : w.code ≡ 45 → masks 0 (bit_or (bit w.a) (d w.c)) 0 ≡ At w.code
+  pub at-of-type : w.code ≡ 45 → masks 0 (bit_or (bit w.a) (m w.c).defs) 0 ≡ At w.code
   unfolding masks_by shape_of lookup codes join
   at-of-type e = sym (ap At e)
 
   -- 46
-  pub at_item : w.code ≡ 46 → masks 0 (bit_or (bit w.a) (d w.b)) 0 ≡ At w.code
+  pub at_item : w.code ≡ 46 → masks 0 (bit_or (bit w.a) (m w.b).defs) 0 ≡ At w.code
   unfolding masks_by shape_of lookup codes join
   at_item e = sym (ap At e)
 
   -- 52
-  pub at-communicate : w.code ≡ 52 → masks 0 (d w.b) 0 ≡ At w.code
+  pub at-communicate : w.code ≡ 52 → masks 0 (m w.b).defs 0 ≡ At w.code
   unfolding masks_by shape_of lookup codes
   at-communicate e = sym (ap At e)
 
@@ -129,46 +130,46 @@ module _ (u d l : ℕ → ℕ) (w : Fields) where
   at-to e = sym (ap At e)
 
   -- 54 and 57
-  pub at-then : (w.code ≡ 54) ⊎ (w.code ≡ 57) → masks 0 (join (d w.a) (d w.b)) (join (l w.a) (l w.b)) ≡ At w.code
+  pub at-then : (w.code ≡ 54) ⊎ (w.code ≡ 57) → masks 0 (join (m w.a).defs (m w.b).defs) (join (m w.a).leads (m w.b).leads) ≡ At w.code
   unfolding masks_by shape_of lookup codes
   at-then e = ⊎_elim (λ p. sym (ap At p)) (λ q. sym (ap At q)) e
 
   -- 55
-  pub at-select : w.code ≡ 55 → masks 0 (d w.a) (l w.a) ≡ At w.code
+  pub at-select : w.code ≡ 55 → masks 0 (m w.a).defs (m w.a).leads ≡ At w.code
   unfolding masks_by shape_of lookup codes
   at-select e = sym (ap At e)
 
   -- 56 and 59
-  pub at-case : (w.code ≡ 56) ⊎ (w.code ≡ 59) → masks 0 (d w.b) (l w.b) ≡ At w.code
+  pub at-case : (w.code ≡ 56) ⊎ (w.code ≡ 59) → masks 0 (m w.b).defs (m w.b).leads ≡ At w.code
   unfolding masks_by shape_of lookup codes
   at-case e = ⊎_elim (λ p. sym (ap At p)) (λ q. sym (ap At q)) e
 
   -- 58
-  pub at-arm : w.code ≡ 58 → masks (join (u w.a) (u w.c)) (bit_or (d w.a) (join (d w.b) (d w.c))) (join (l w.b) (l w.c)) ≡ At w.code
+  pub at-arm : w.code ≡ 58 → masks (join (m w.a).uses (m w.c).uses) (bit_or (m w.a).defs (join (m w.b).defs (m w.c).defs)) (join (m w.b).leads (m w.c).leads) ≡ At w.code
   unfolding masks_by shape_of lookup codes join
   at-arm e = sym (ap At e)
 
   -- 60
-  pub at-for : w.code ≡ 60 → masks 0 (join (d w.a) (d w.b)) (l w.b) ≡ At w.code
+  pub at-for : w.code ≡ 60 → masks 0 (join (m w.a).defs (m w.b).defs) (m w.b).leads ≡ At w.code
   unfolding masks_by shape_of lookup codes
   at-for e = sym (ap At e)
 
   -- 17, 18 and 20 to 27
-  pub at-binary : 16 ≤ w.code → w.code < 28 → Rest w.code → masks (join (u w.a) (u w.b)) 0 0 ≡ At w.code
+  pub at-binary : 16 ≤ w.code → w.code < 28 → Rest w.code → masks (join (m w.a).uses (m w.b).uses) 0 0 ≡ At w.code
   unfolding masks_by shape_of lookup codes among arms
   at-binary h k t =
       ⊎_elim (λ p. absurd (true≢false (sym p ∙ not-among w.code t))) (λ q. q)
-      (each_at (λ n. (among arms n ≡ true) ⊎ (masks (join (u w.a) (u w.b)) 0 0 ≡ At n)) 16 12
+      (each_at (λ n. (among arms n ≡ true) ⊎ (masks (join (m w.a).uses (m w.b).uses) 0 0 ≡ At n)) 16 12
       (inl refl, (inr refl, (inr refl, (inl refl, (inr refl, (inr refl, (inr refl, (inr refl, (inr refl, (inr refl, (inr refl, (inr refl, tt)))))))))))) w.code h k)
 
   -- 49 to 51
-  pub at-vector : 49 ≤ w.code → w.code < 52 → masks 0 (d w.a) 0 ≡ At w.code
+  pub at-vector : 49 ≤ w.code → w.code < 52 → masks 0 (m w.a).defs 0 ≡ At w.code
   unfolding masks_by shape_of lookup codes
-  at-vector h k = each_at (λ n. masks 0 (d w.a) 0 ≡ At n) 49 3 (refl, (refl, (refl, tt))) w.code h k
+  at-vector h k = each_at (λ n. masks 0 (m w.a).defs 0 ≡ At n) 49 3 (refl, (refl, (refl, tt))) w.code h k
 
   -- every other code: its row has nothing
   Nothing : ℕ → Bool
-  Nothing c = eqb (At c).0 0 && (eqb (At c).1 0 && eqb (At c).2 0)
+  Nothing c = eqb (At c).uses 0 && (eqb (At c).defs 0 && eqb (At c).leads 0)
 
   quiet : ℕ → Bool
   quiet c = between 16 c 27 || (between 49 c 51 || (among arms c || Nothing c))
@@ -183,11 +184,11 @@ module _ (u d l : ℕ → ℕ) (w : Fields) where
   nothing : (c : ℕ) → Nothing c ≡ true → masks 0 0 0 ≡ At c
   unfolding Nothing
   nothing c e =
-      let p = both_true (eqb (At c).0 0) _ e in
-      let q = both_true (eqb (At c).1 0) _ p.1 in
+      let p = both_true (eqb (At c).uses 0) _ e in
+      let q = both_true (eqb (At c).defs 0) _ p.1 in
       sym (three (eqb-true _ _ p.0) (eqb-true _ _ q.0) (eqb-true _ _ q.1))
     where
-      three : {m n k : ℕ} → m ≡ 0 → n ≡ 0 → k ≡ 0 → masks m n k ≡ masks 0 0 0
+      three : {u d l : ℕ} → u ≡ 0 → d ≡ 0 → l ≡ 0 → masks u d l ≡ masks 0 0 0
       three a b c = rw (a, b, c)
 
   pub at_other : (16 ≤ w.code → w.code ≤ 27 → ⊥) → (49 ≤ w.code → w.code ≤ 51 → ⊥) → Rest w.code → masks 0 0 0 ≡ At w.code
@@ -200,7 +201,7 @@ module _ (u d l : ℕ → ℕ) (w : Fields) where
           (λ e. ⊎_elim (λ p. absurd (outside 49 w.code 51 g p))
           (λ p. ⊎_elim (λ q. absurd (true≢false (sym q ∙ not-among w.code t))) (nothing w.code) (one-true _ _ p)) (one-true _ _ e))
           (one-true _ _ (all-from quiet 0 61 quiet-below w.code (omega arith) k))
-      go (no k) = sym (ap (λ (s : Shape). masks_by u d l w s.means) (shape-past w.code (omega arith)))
+      go (no k) = sym (ap (λ (s : Shape). masks_by m w s.means) (shape-past w.code (omega arith)))
 
 -- the numbers of bits that a row holds
 module _ (c n : ℕ) (p : Small (shape_of c).means n) where

@@ -11,7 +11,7 @@ use Rattle.model.specs.Binding.{assigned, chosen, dropped, use_of_exp, def_of_pa
 use Rattle.model.specs.Sets.{use_of_arms, targets, targets_branches, targets_arms}
 use Rattle.model.proofs.Rows.{Formed, Named, fields_for, lined, is-kind}
 use Rattle.model.proofs.Decode.{list_at-none}
-use Rattle.masks.specs.Masks.{branches_at, arms_at, use_as, def_as, lead_as, use_at, def_at, lead_at}
+use Rattle.masks.specs.Masks.{branches_at, arms_at, use_as, def_as, lead_as, use_at, def_at, lead_at, masks, masks_at}
 
 module _ (x : Tables) where
   -- of a row that means m
@@ -73,6 +73,9 @@ module _ (x : Tables) where
 
     pub lead-none : lead_at x none ≡ 0
     lead-none = lead_is none _ means-none
+
+    pub masks_none : masks_at x none ≡ masks 0 0 0
+    masks_none = rw (use-none, def_none, lead-none)
 
     -- of a list
     pub use-offers : (r n : ℕ) → (n ≡ none) ⊎ Named x r offer n → use_at x n ≡ use_of_offers (offers_at x n)

@@ -1,5 +1,5 @@
 -- The masks of a row from its fields and the masks of lower rows, in an image free of 5. Assumes nothing.
-use mathlib.Core.{Path.◌≡◌, Path.refl, Path.◌∙◌, Logic.◌⊎◌, Logic.inl, Logic.inr, Bool.true, List.map}
+use mathlib.Core.{Path.◌≡◌, Path.refl, Path.ap, Path.◌∙◌, Logic.◌⊎◌, Logic.inl, Logic.inr, Bool.true, List.map}
 use Prim.Native.Nat.{ℕ, ◌≤◌, ◌<◌}
 use native.Mathlib.Omega.{arith}
 use lib.{Dec.ltb, ListN.length, Bits.or_zero_l}
@@ -13,15 +13,14 @@ use Rattle.model.specs.Binding.{assigned, chosen, dropped, use_of_exp, def_of_pa
 use Rattle.model.specs.Sets.{use_of_arms, targets, targets_branches, targets_arms}
 use Rattle.model.proofs.Rows.{Formed, Named, Row, row_of}
 use Rattle.model.proofs.Decode.{expression_at-is, pattern_at-is, action_at-is, list_at-step}
-use Rattle.masks.specs.Masks.{branches_at, arms_at, use_as, def_as, lead_as, use_at, def_at, lead_at}
-use Rattle.masks.specs.Rows.{masks, masks_at, masks_by, Small}
+use Rattle.masks.specs.declared.Masks.{Masks}
+use Rattle.masks.specs.Masks.{branches_at, arms_at, use_as, def_as, lead_as, use_at, def_at, lead_at, masks, masks_at}
+use Rattle.masks.specs.Rows.{masks_by, Small}
 use Rattle.masks.proofs.ByKind.{next-is, use-expression, use-pattern, def-pattern, def-action, lead-action, def-range, use-offers, def-offers, use-gets, def-gets, def-of-types, def-items, def-branches, lead-branches, use-arms, def-arms, lead-arms}
 
--- the masks of the rows below r, and none's, are u, d and l
-pub record Known (x : Tables) (r : ℕ) (u d l : ℕ → ℕ) : Type 0 where
-  pub uses : (n : ℕ) → (n ≡ none) ⊎ (n < r) → u n ≡ use_at x n
-  pub defs : (n : ℕ) → (n ≡ none) ⊎ (n < r) → d n ≡ def_at x n
-  pub leads : (n : ℕ) → (n ≡ none) ⊎ (n < r) → l n ≡ lead_at x n
+-- the masks of the rows below r, and none's, are m
+abbrev pub Known : Tables → ℕ → (ℕ → Masks) → Type 0
+Known x r m = (n : ℕ) → (n ≡ none) ⊎ (n < r) → m n ≡ masks_at x n
 
 lower : {x : Tables} {r n : ℕ} {k : Kind} → (n ≡ none) ⊎ Named x r k n → (n ≡ none) ⊎ (n < r)
 lower (inl e) = inl e
@@ -32,58 +31,67 @@ listed (inl e) = inl e
 listed (inr p) = inr p.0
 
 module _ (x : Tables) (ok : Formed x) (short : length x.rows ≤ none) (r : ℕ) (real : r < length x.rows)
-    (u d l : ℕ → ℕ) (known : Known x r u d l) where
+    (m : ℕ → Masks) (known : Known x r m) where
+  uses : (n : ℕ) → (n ≡ none) ⊎ (n < r) → (m n).uses ≡ use_at x n
+  uses n p = ap (λ (k : Masks). k.uses) (known n p)
+
+  defs : (n : ℕ) → (n ≡ none) ⊎ (n < r) → (m n).defs ≡ def_at x n
+  defs n p = ap (λ (k : Masks). k.defs) (known n p)
+
+  leads : (n : ℕ) → (n ≡ none) ⊎ (n < r) → (m n).leads ≡ lead_at x n
+  leads n p = ap (λ (k : Masks). k.leads) (known n p)
+
   -- what the rows that row r names have
-  u-expression : (n : ℕ) → Named x r expression n → u n ≡ use_of_exp (expression_at x n)
-  u-expression n p = known.uses n (inr p.below) ∙ use-expression x n p.kind
+  u-expression : (n : ℕ) → Named x r expression n → (m n).uses ≡ use_of_exp (expression_at x n)
+  u-expression n p = uses n (inr p.below) ∙ use-expression x n p.kind
 
-  u-pattern : (n : ℕ) → Named x r pattern n → u n ≡ use_of_pat (pattern_at x n)
-  u-pattern n p = known.uses n (inr p.below) ∙ use-pattern x n p.kind
+  u-pattern : (n : ℕ) → Named x r pattern n → (m n).uses ≡ use_of_pat (pattern_at x n)
+  u-pattern n p = uses n (inr p.below) ∙ use-pattern x n p.kind
 
-  d-pattern : (n : ℕ) → Named x r pattern n → d n ≡ def_of_pat (pattern_at x n)
-  d-pattern n p = known.defs n (inr p.below) ∙ def-pattern x n p.kind
+  d-pattern : (n : ℕ) → Named x r pattern n → (m n).defs ≡ def_of_pat (pattern_at x n)
+  d-pattern n p = defs n (inr p.below) ∙ def-pattern x n p.kind
 
-  d-action : (n : ℕ) → Named x r action n → d n ≡ touches (action_at x n)
-  d-action n p = known.defs n (inr p.below) ∙ def-action x n p.kind
+  d-action : (n : ℕ) → Named x r action n → (m n).defs ≡ touches (action_at x n)
+  d-action n p = defs n (inr p.below) ∙ def-action x n p.kind
 
-  l-action : (n : ℕ) → Named x r action n → l n ≡ targets (action_at x n)
-  l-action n p = known.leads n (inr p.below) ∙ lead-action x n p.kind
+  l-action : (n : ℕ) → Named x r action n → (m n).leads ≡ targets (action_at x n)
+  l-action n p = leads n (inr p.below) ∙ lead-action x n p.kind
 
-  d-range : (n : ℕ) → Named x r range n → d n ≡ bit (fields_of x n).a
-  d-range n p = known.defs n (inr p.below) ∙ def-range x n p.kind
+  d-range : (n : ℕ) → Named x r range n → (m n).defs ≡ bit (fields_of x n).a
+  d-range n p = defs n (inr p.below) ∙ def-range x n p.kind
 
-  u-offers : (n : ℕ) → (n ≡ none) ⊎ Named x r offer n → u n ≡ use_of_offers (offers_at x n)
-  u-offers n p = known.uses n (lower p) ∙ use-offers x ok short r n p
+  u-offers : (n : ℕ) → (n ≡ none) ⊎ Named x r offer n → (m n).uses ≡ use_of_offers (offers_at x n)
+  u-offers n p = uses n (lower p) ∙ use-offers x ok short r n p
 
-  d-offers : (n : ℕ) → (n ≡ none) ⊎ Named x r offer n → d n ≡ def_of_offers (offers_at x n)
-  d-offers n p = known.defs n (lower p) ∙ def-offers x ok short r n p
+  d-offers : (n : ℕ) → (n ≡ none) ⊎ Named x r offer n → (m n).defs ≡ def_of_offers (offers_at x n)
+  d-offers n p = defs n (lower p) ∙ def-offers x ok short r n p
 
-  u-gets : (n : ℕ) → (n ≡ none) ⊎ Named x r gets n → u n ≡ union (map (λ i. use_of_exp i.e) (gets_at x n))
-  u-gets n p = known.uses n (lower p) ∙ use-gets x ok short r n p
+  u-gets : (n : ℕ) → (n ≡ none) ⊎ Named x r gets n → (m n).uses ≡ union (map (λ i. use_of_exp i.e) (gets_at x n))
+  u-gets n p = uses n (lower p) ∙ use-gets x ok short r n p
 
-  d-gets : (n : ℕ) → (n ≡ none) ⊎ Named x r gets n → d n ≡ assigned (gets_at x n)
-  d-gets n p = known.defs n (lower p) ∙ def-gets x ok short r n p
+  d-gets : (n : ℕ) → (n ≡ none) ⊎ Named x r gets n → (m n).defs ≡ assigned (gets_at x n)
+  d-gets n p = defs n (lower p) ∙ def-gets x ok short r n p
 
-  d-of-types : (n : ℕ) → (n ≡ none) ⊎ Named x r of_type n → d n ≡ chosen (of_types_at x n)
-  d-of-types n p = known.defs n (lower p) ∙ def-of-types x ok short r n p
+  d-of-types : (n : ℕ) → (n ≡ none) ⊎ Named x r of_type n → (m n).defs ≡ chosen (of_types_at x n)
+  d-of-types n p = defs n (lower p) ∙ def-of-types x ok short r n p
 
-  d-items : (n : ℕ) → (n ≡ none) ⊎ Named x r item n → d n ≡ dropped (variables_at x n)
-  d-items n p = known.defs n (lower p) ∙ def-items x ok short r n p
+  d-items : (n : ℕ) → (n ≡ none) ⊎ Named x r item n → (m n).defs ≡ dropped (variables_at x n)
+  d-items n p = defs n (lower p) ∙ def-items x ok short r n p
 
-  d-branches : (n : ℕ) → (n ≡ none) ⊎ Named x r branch n → d n ≡ touches_branches (branches_at x n)
-  d-branches n p = known.defs n (lower p) ∙ def-branches x ok short r n p
+  d-branches : (n : ℕ) → (n ≡ none) ⊎ Named x r branch n → (m n).defs ≡ touches_branches (branches_at x n)
+  d-branches n p = defs n (lower p) ∙ def-branches x ok short r n p
 
-  l-branches : (n : ℕ) → (n ≡ none) ⊎ Named x r branch n → l n ≡ targets_branches (branches_at x n)
-  l-branches n p = known.leads n (lower p) ∙ lead-branches x ok short r n p
+  l-branches : (n : ℕ) → (n ≡ none) ⊎ Named x r branch n → (m n).leads ≡ targets_branches (branches_at x n)
+  l-branches n p = leads n (lower p) ∙ lead-branches x ok short r n p
 
-  u-arms : (n : ℕ) → (n ≡ none) ⊎ Named x r arm n → u n ≡ use_of_arms (arms_at x n)
-  u-arms n p = known.uses n (lower p) ∙ use-arms x ok short r n p
+  u-arms : (n : ℕ) → (n ≡ none) ⊎ Named x r arm n → (m n).uses ≡ use_of_arms (arms_at x n)
+  u-arms n p = uses n (lower p) ∙ use-arms x ok short r n p
 
-  d-arms : (n : ℕ) → (n ≡ none) ⊎ Named x r arm n → d n ≡ touches_arms (arms_at x n)
-  d-arms n p = known.defs n (lower p) ∙ def-arms x ok short r n p
+  d-arms : (n : ℕ) → (n ≡ none) ⊎ Named x r arm n → (m n).defs ≡ touches_arms (arms_at x n)
+  d-arms n p = defs n (lower p) ∙ def-arms x ok short r n p
 
-  l-arms : (n : ℕ) → (n ≡ none) ⊎ Named x r arm n → l n ≡ targets_arms (arms_at x n)
-  l-arms n p = known.leads n (lower p) ∙ lead-arms x ok short r n p
+  l-arms : (n : ℕ) → (n ≡ none) ⊎ Named x r arm n → (m n).leads ≡ targets_arms (arms_at x n)
+  l-arms n p = leads n (lower p) ∙ lead-arms x ok short r n p
 
   abbrev W : Fields
   W = fields_of x r
@@ -91,12 +99,12 @@ module _ (x : Tables) (ok : Formed x) (short : length x.rows ≤ none) (r : ℕ)
   some : r ≡ none → ⊥
   some e = omega arith
 
-  nothing : (m : ℕ) → join 0 m ≡ m
+  nothing : (n : ℕ) → join 0 n ≡ n
   unfolding join
-  nothing m = or_zero_l m
+  nothing n = or_zero_l n
 
   -- by what the row means
-  step : (m : Means) → means_at x r ≡ m → Row x r W m → masks_by u d l W m ≡ masks (use_as x r m) (def_as x r m) (lead_as x r m)
+  step : (k : Means) → means_at x r ≡ k → Row x r W k → masks_by m W k ≡ masks (use_as x r k) (def_as x r k) (lead_as x r k)
   unfolding masks_by union use_of_exp use_of_pat def_of_pat use_of_arms touches targets grow_expression grow_pattern grow_action offer_of branches_of arms_of
   step (an_expression is_variable) e q = rw (expression_at-is x ok r _ e)
   step (an_expression is_constant) e q = rw (expression_at-is x ok r _ e)
@@ -140,7 +148,7 @@ module _ (x : Tables) (ok : Formed x) (short : length x.rows ≤ none) (r : ℕ)
   step (another unknown) e q = refl
 
   -- the masks of row r
-  pub masks-row : masks_by u d l W (means_at x r) ≡ masks_at x r
+  pub masks-row : masks_by m W (means_at x r) ≡ masks_at x r
   unfolding use_at def_at lead_at
   masks-row = step (means_at x r) refl (row_of x ok r)
 

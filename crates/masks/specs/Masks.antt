@@ -9,6 +9,7 @@ use Rattle.model.specs.Trees.{Branches, Arms}
 use Rattle.model.specs.Decode.{expression_at, pattern_at, action_at, list_at, offers_at, gets_at, of_types_at, variables_at, branches_of, arms_of}
 use Rattle.model.specs.Binding.{assigned, chosen, dropped, use_of_exp, def_of_pat, use_of_pat, use_of_offers, def_of_offers, touches, touches_branches, touches_arms}
 use Rattle.model.specs.Sets.{use_of_arms, targets, targets_branches, targets_arms}
+use Rattle.masks.specs.declared.Masks.{Masks}
 
 -- the branches and the arms of the list that starts at a row
 abbrev pub branches_at : Tables → ℕ → Branches
@@ -77,11 +78,18 @@ def_at x r = def_as x r (means_at x r)
 unfoldable pub lead_at : Tables → ℕ → ℕ
 lead_at x r = lead_as x r (means_at x r)
 
+abbrev pub masks : ℕ → ℕ → ℕ → Masks
+masks u d l = record { uses = u; defs = d; leads = l }
+
+-- the masks of row r
+abbrev pub masks_at : Tables → ℕ → Masks
+masks_at x r = masks (use_at x r) (def_at x r) (lead_at x r)
+
+-- the masks of row r, or of the list that starts there; none is past the end and has nothing
+abbrev pub masks_in : List Masks → ℕ → Masks
+masks_in ms r = get_or ms r (masks 0 0 0)
+
 -- the masks of the rows below n are filled in
-pub record Filled (x : Tables) (n : ℕ) (uses defs leads : List ℕ) : Type 0 where
-  pub use_row : (r : ℕ) → r < n → get_or uses r 0 ≡ use_at x r
-  pub def_row : (r : ℕ) → r < n → get_or defs r 0 ≡ def_at x r
-  pub lead_row : (r : ℕ) → r < n → get_or leads r 0 ≡ lead_at x r
-  pub uses_size : n ≤ length uses
-  pub defs_size : n ≤ length defs
-  pub leads_size : n ≤ length leads
+pub record Filled (x : Tables) (n : ℕ) (ms : List Masks) : Type 0 where
+  pub each : (r : ℕ) → r < n → masks_in ms r ≡ masks_at x r
+  pub size : n ≤ length ms

@@ -7,3 +7,4 @@ pub mod Codes
 pub mod Decode
 pub mod Passed
 pub mod Run
+pub mod Found

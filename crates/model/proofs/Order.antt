@@ -1,31 +1,37 @@
 -- Laws of the order in which refusals are given: `after`, `unless`, `lowest`, `each`. Assumes nothing.
+use Rattle.std.specs.Prelude.{Result, Ok, Err, IsErrAnd}
+use Rattle.std.proofs.lemmas.Result.{err_from_is_err_and}
 use mathlib.Core.{Path.◌≡◌, Path.refl, Path.sym, Path.◌∙◌, Logic.⊎_elim, Bool.Bool, Bool.true, Bool.false, Bool.cond, Bool.false≢true}
 use Prim.Native.Nat.{ℕ, zero, suc, ◌+◌, ◌<◌, ◌≤◌}
 use native.Mathlib.{Nat.eq-or-lt_of_le, Omega.arith}
 use lib.Dec.{ltb}
 use borrow.Author.Tests.{ltb-true, ltb-false, leb-true, le-leb, lt-leb}
-use Rattle.model.specs.declared.{Refusal.Refusal, Verdict.Verdict, Verdict.TheVariants.Accepted, Verdict.TheVariants.Refused}
-use Rattle.model.specs.Answers.{after, unless, lowest, each}
+use Rattle.model.specs.declared.{Refusal.Refusal}
+use Rattle.model.specs.Answers.{after, unless, lowest, each, Verdict}
 
-pub after-accepted : (v w : Verdict) → v ≡ Accepted → after v w ≡ w
+pub after-accepted : (v w : Verdict) → v ≡ Ok tt → after v w ≡ w
 unfolding after
 after-accepted v w e = rw e
 
-pub after-refused : (v w : Verdict) (y : Refusal) → v ≡ Refused y → after v w ≡ Refused y
+pub after-refused : (v w : Verdict) (y : Refusal) → v ≡ Err y → after v w ≡ Err y
 unfolding after
 after-refused v w y e = rw e
 
-pub after_both : (v w : Verdict) → after v w ≡ Accepted → (v ≡ Accepted) × (w ≡ Accepted)
+pub after_both : (v w : Verdict) → after v w ≡ Ok tt → (v ≡ Ok tt) × (w ≡ Ok tt)
 unfolding after
-after_both Accepted w e = (refl, e)
-after_both (Refused y) w e = (e, cc)
+after_both (Ok _) w e = (refl, e)
+after_both (Err y) w e = (e, cc)
 
 pub after-assoc : (u v w : Verdict) → after (after u v) w ≡ after u (after v w)
 unfolding after
-after-assoc Accepted v w = refl
-after-assoc (Refused y) v w = refl
+after-assoc (Ok _) v w = refl
+after-assoc (Err y) v w = refl
 
-pub unless-true : (b : Bool) (y : Refusal) → unless b y ≡ Accepted → b ≡ true
+-- what a `?` leaves with is what it met
+pub passed-on : {T : Type 0} (r : Result T Refusal) (y : Refusal) → IsErrAnd r (λ e. e ≡ y) → r ≡ Err y
+passed-on r y h = let p = err_from_is_err_and r h in rw (← p.2) p.1
+
+pub unless-true : (b : Bool) (y : Refusal) → unless b y ≡ Ok tt → b ≡ true
 unless-true true y e = refl
 unless-true false y e = cc
 
@@ -80,17 +86,17 @@ module _ (p : ℕ → Bool) where
   lowest-fail i n e h t = lowest-is n i (omega arith) (λ k g. lowest-below i k (omega arith)) (λ g. t)
 
   module _ (n : ℕ) (f : ℕ → Refusal) where
-    pub each-full : lowest p n ≡ n → each p n f ≡ Accepted
+    pub each-full : lowest p n ≡ n → each p n f ≡ Ok tt
     unfolding each
     each-full e = rw (e, le-leb n n (omega arith))
 
-    pub each-accepts : ((k : ℕ) → k < n → p k ≡ true) → each p n f ≡ Accepted
+    pub each-accepts : ((k : ℕ) → k < n → p k ≡ true) → each p n f ≡ Ok tt
     each-accepts h = each-full (lowest-full n h)
 
-    pub each_all : each p n f ≡ Accepted → (k : ℕ) → k < n → p k ≡ true
+    pub each_all : each p n f ≡ Ok tt → (k : ℕ) → k < n → p k ≡ true
     unfolding each
     each_all e k h = lowest-below n k (omega (arith, leb-true n (lowest p n) (unless-true _ _ e)))
 
-    pub each-refuses : (i : ℕ) → lowest p i ≡ i → i < n → p i ≡ false → each p n f ≡ Refused (f i)
+    pub each-refuses : (i : ℕ) → lowest p i ≡ i → i < n → p i ≡ false → each p n f ≡ Err (f i)
     unfolding each
     each-refuses i e h t = rw (lowest-fail i n e h t, lt-leb n i h)

@@ -1,8 +1,9 @@
 -- What an image free of 1 to 9 has. Assumes nothing.
+use Rattle.std.specs.Prelude.{Ok}
 use mathlib.Core.{Path.◌≡◌, Bool.true, List.List}
 use Prim.Native.Nat.{ℕ, ◌<◌}
 use lib.ListN.{length, get_or}
-use Rattle.model.specs.declared.{Verdict.TheVariants.Accepted, Refusal.TheVariants.ImageLength, Refusal.TheVariants.MarkOrLength, Refusal.TheVariants.Starts, Refusal.TheVariants.Entries, Refusal.TheVariants.Malformed, Refusal.TheVariants.NoAction, Refusal.TheVariants.NoCondition, Refusal.TheVariants.Typing}
+use Rattle.model.specs.declared.{Refusal.TheVariants.ImageLength, Refusal.TheVariants.MarkOrLength, Refusal.TheVariants.Starts, Refusal.TheVariants.Entries, Refusal.TheVariants.Malformed, Refusal.TheVariants.NoAction, Refusal.TheVariants.NoCondition, Refusal.TheVariants.Typing}
 use Rattle.model.specs.Answers.{state, row, unless, each}
 use Rattle.model.specs.Image.{Tables, none, length_fits, marked, trailer_of, starts_fit, tables_of, entries_right}
 use Rattle.model.specs.Rows.{action, expression, is_root, formed, named_once}
@@ -29,7 +30,7 @@ pub record Passed (s : List ℕ) : Type 0 where
   pub starts : starts_fit (trailer_of s) ≡ true
   pub free : Free (tables_of s)
 
-pub passed : (s : List ℕ) → image_verdict s ≡ Accepted → Passed s
+pub passed : (s : List ℕ) → image_verdict s ≡ Ok tt → Passed s
 unfolding image_verdict rows_verdict rules_verdict
 passed s e =
     let x = tables_of s in

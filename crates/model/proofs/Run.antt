@@ -1,10 +1,11 @@
 -- The laws of a run: of each combinator its equations and a rule, and what holds of every action. Assumes nothing.
+use Rattle.std.specs.Prelude.{Option, Some, None}
 use mathlib.Core.{Path.◌≡◌, Path.refl, Path.sym, Path.ap, Path.◌∙◌, Bool.Bool, Bool.true, Bool.false, List.List, List.[], List.◌∷◌}
 use Prim.Native.Nat.{ℕ, zero, suc, ◌+◌, ◌-◌, ◌/◌, ◌≤◌, ◌<◌}
 use native.Mathlib.{Omega.arith, Nat.le_refl}
 use lib.{Dec.eqb, Dec.ltb, IntN.ℤ, IntN.pos, IntN.negsuc, ListN.length}
 use borrow.Author.Tests.{ltb-true, ltb-false, eqb-true, eqb-false, lt-ltb, le-ltb, ne_eqb}
-use Rattle.model.specs.declared.{Gate.Gate, State.State, Variable.Variable, Value.Value, Value.TheVariants.Is, Value.TheVariants.Unknown, Tested.Tested, Tested.TheVariants.Holds, Tested.TheVariants.Fails, Tested.TheVariants.Unsure, Refusal.Refusal, Refusal.TheVariants.Undefined, Refusal.TheVariants.ScriptEnded, Refusal.TheVariants.WordOutOfRange, Refusal.TheVariants.BudgetSpent, Outcome.Outcome, Outcome.TheVariants.Ends, Outcome.TheVariants.Jumps, Outcome.TheVariants.Stops}
+use Rattle.model.specs.declared.{Gate.Gate, State.State, Variable.Variable, Tested.Tested, Tested.TheVariants.Holds, Tested.TheVariants.Fails, Tested.TheVariants.Unsure, Refusal.Refusal, Refusal.TheVariants.Undefined, Refusal.TheVariants.ScriptEnded, Refusal.TheVariants.WordOutOfRange, Refusal.TheVariants.BudgetSpent, Outcome.Outcome, Outcome.TheVariants.Ends, Outcome.TheVariants.Jumps, Outcome.TheVariants.Stops}
 use Rattle.model.specs.Answers.{row}
 use Rattle.model.specs.Bytes.{word_at}
 use Rattle.model.specs.Values.{of_size}
@@ -66,12 +67,12 @@ module _ (x : Tables) (t : ℕ) (script : List ℕ) (r : ℕ) (s : St) (k : ℤ 
   unfolding reading_of
   reading_of-word l e = reading-word script r s _ l ∙ rw e
 
-module _ (y : Value) (r : ℕ) (s : St) (k : ℤ → Res) where
-  pub valued-is : (z : ℤ) → y ≡ Is z → valued y r s k ≡ k z
+module _ (y : Option ℤ) (r : ℕ) (s : St) (k : ℤ → Res) where
+  pub valued-is : (z : ℤ) → y ≡ Some z → valued y r s k ≡ k z
   unfolding valued
   valued-is z e = rw (e, valued)
 
-  pub valued-unknown : y ≡ Unknown → valued y r s k ≡ gives (Stops (Undefined (row r))) s
+  pub valued-unknown : y ≡ None → valued y r s k ≡ gives (Stops (Undefined (row r))) s
   unfolding valued
   valued-unknown e = rw (e, valued)
 
@@ -136,11 +137,11 @@ module _ (P : Res → Type 0) where
   reading_of-rule x t script r s k on out off =
       reading-rule script r s _ (λ l. if-rule (of_size x.half (size_of x t) (word_at script s.words)) _ _ (on l) (out l)) off
 
-  pub valued-rule : (y : Value) (r : ℕ) (s : St) (k : ℤ → Res) → ((z : ℤ) → y ≡ Is z → P (k z))
-      → (y ≡ Unknown → P (gives (Stops (Undefined (row r))) s)) → P (valued y r s k)
+  pub valued-rule : (y : Option ℤ) (r : ℕ) (s : St) (k : ℤ → Res) → ((z : ℤ) → y ≡ Some z → P (k z))
+      → (y ≡ None → P (gives (Stops (Undefined (row r))) s)) → P (valued y r s k)
   unfolding valued
-  valued-rule (Is z) r s k on off = on z refl
-  valued-rule Unknown r s k on off = off refl
+  valued-rule (Some z) r s k on off = on z refl
+  valued-rule None r s k on off = off refl
 
   pub tested-rule : (y : Tested) (r : ℕ) (s : St) (k l : Res) → (y ≡ Holds → P k) → (y ≡ Fails → P l)
       → (y ≡ Unsure → P (gives (Stops (Undefined (row r))) s)) → P (tested y r s k l)
@@ -316,10 +317,10 @@ looping-alike x e b c t h (suc n) s =
     rw (looping-step x e b t n s, looping-step x e c t n s) (tested-alike (test x e s.store) t s _ _ (gives Ends s)
     (then-alike _ _ (h s) (λ u. charge-alike t u _ _ (looping-alike x e b c t h n))))
 
-valued-alike : {r : ℕ} {k l : ℤ → Res} (y : Value) (s : St) → ((z : ℤ) → Alike r (k z) (l z)) → Alike r (valued y r s k) (valued y none s l)
+valued-alike : {r : ℕ} {k l : ℤ → Res} (y : Option ℤ) (s : St) → ((z : ℤ) → Alike r (k z) (l z)) → Alike r (valued y r s k) (valued y none s l)
 unfolding valued
-valued-alike (Is z) s h = h z
-valued-alike Unknown s h = unlike
+valued-alike (Some z) s h = h z
+valued-alike None s h = unlike
 
 storing-alike : (x : Tables) (items : List Gets) (r : ℕ) (m : List ℤ) (s : St) → Alike r (storing x items r m s) (storing x items none m s)
 unfolding storing

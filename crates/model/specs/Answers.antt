@@ -1,6 +1,6 @@
 -- The numbers given instead (01, "Numbers given instead") and the order in which they are given. Assumes nothing.
-use Rattle.std.specs.Prelude.{Bool, true, false, cond, ℕ, zero, suc, leb, ltb}
-use Rattle.model.specs.declared.{State.State, Variable.Variable, Gate.Gate, Row.Row, Refusal.Refusal, Refusal.TheVariants.ImageLength, Refusal.TheVariants.MarkOrLength, Refusal.TheVariants.Starts, Refusal.TheVariants.Entries, Refusal.TheVariants.Malformed, Refusal.TheVariants.NoAction, Refusal.TheVariants.NoCondition, Refusal.TheVariants.NotNamedOnce, Refusal.TheVariants.Typing, Refusal.TheVariants.Binding, Refusal.TheVariants.SetsShort, Refusal.TheVariants.Initialisation, Refusal.TheVariants.Speech, Refusal.TheVariants.StoreLength, Refusal.TheVariants.ParameterCount, Refusal.TheVariants.ParameterValue, Refusal.TheVariants.ConditionFalse, Refusal.TheVariants.NoState, Refusal.TheVariants.SlotValue, Refusal.TheVariants.LabelShort, Refusal.TheVariants.BudgetOver, Refusal.TheVariants.Blocked, Refusal.TheVariants.Undefined, Refusal.TheVariants.ScriptEnded, Refusal.TheVariants.WordOutOfRange, Refusal.TheVariants.BudgetSpent, Refusal.TheVariants.BlockedSpoken, Refusal.TheVariants.SecondCommunication, Verdict.Verdict, Verdict.TheVariants.Accepted, Verdict.TheVariants.Refused}
+use Rattle.std.specs.Prelude.{Bool, true, false, cond, ℕ, zero, suc, leb, ltb, Option, Some, None, Result, Ok, Err}
+use Rattle.model.specs.declared.{State.State, Variable.Variable, Gate.Gate, Row.Row, Move.Move, Refusal.Refusal, Refusal.TheVariants.ImageLength, Refusal.TheVariants.MarkOrLength, Refusal.TheVariants.Starts, Refusal.TheVariants.Entries, Refusal.TheVariants.Malformed, Refusal.TheVariants.NoAction, Refusal.TheVariants.NoCondition, Refusal.TheVariants.NotNamedOnce, Refusal.TheVariants.Typing, Refusal.TheVariants.Binding, Refusal.TheVariants.SetsShort, Refusal.TheVariants.Initialisation, Refusal.TheVariants.Speech, Refusal.TheVariants.StoreLength, Refusal.TheVariants.ParameterCount, Refusal.TheVariants.ParameterValue, Refusal.TheVariants.ConditionFalse, Refusal.TheVariants.NoState, Refusal.TheVariants.SlotValue, Refusal.TheVariants.LabelShort, Refusal.TheVariants.BudgetOver, Refusal.TheVariants.Blocked, Refusal.TheVariants.Undefined, Refusal.TheVariants.ScriptEnded, Refusal.TheVariants.WordOutOfRange, Refusal.TheVariants.BudgetSpent, Refusal.TheVariants.BlockedSpoken, Refusal.TheVariants.SecondCommunication}
 
 -- members of the report's sets, and rows, by their numbers
 abbrev pub state : ℕ → State
@@ -59,15 +59,23 @@ number y = (given y).number
 abbrev pub place : Refusal → ℕ
 place y = (given y).place
 
+-- what check and start give, and each stage of the calls: nothing wrong, or a refusal
+abbrev pub Verdict : Type 0
+Verdict = Result (Unit {0}) Refusal
+
+-- what a step gives: its move, or why there is none
+abbrev pub Stepped : Type 0
+Stepped = Result Move Refusal
+
 -- the second stage's verdict, where the first refuses nothing
 unfoldable pub after : Verdict → Verdict → Verdict
-after Accepted next = next
-after (Refused x) next = Refused x
+after (Ok _) next = next
+after (Err x) next = Err x
 
 -- refused with x unless the test passes
 abbrev pub unless : Bool → Refusal → Verdict
-unless true x = Accepted
-unless false x = Refused x
+unless true x = Ok tt
+unless false x = Err x
 
 -- "Lowest place first": the lowest k below n at which the test fails, or n
 unfoldable pub lowest : (ℕ → Bool) → ℕ → ℕ
@@ -77,3 +85,7 @@ lowest p (suc n) = let k = lowest p n in cond (ltb k n) k (cond (p n) (suc n) n)
 -- refused at the lowest place below n at which the test fails
 unfoldable pub each : (ℕ → Bool) → ℕ → (ℕ → Refusal) → Verdict
 each p n x = let k = lowest p n in unless (leb n k) (x k)
+
+-- the same place, where there is one
+unfoldable pub lowest_failing : (ℕ → Bool) → ℕ → Option ℕ
+lowest_failing p n = let k = lowest p n in cond (ltb k n) (Some k) None

@@ -1,11 +1,11 @@
 -- The three calls (01, "What we are building", "Numbers given instead"): for every input the answer and every lent word
 -- afterwards. Assumes nothing.
 use mathlib.Core.{Bool.Bool, Bool.true, Bool.false, Bool.not, Bool.◌||◌, List.List, List.[], List.◌∷◌, List.◌++◌}
-use Rattle.std.specs.Prelude.{ℕ, ◌+◌, ◌-◌}
+use Rattle.std.specs.Prelude.{ℕ, ◌+◌, ◌-◌, Ok, Err}
 use lib.{Dec.eqb, Dec.leb, Dec.ltb, IntN.ℤ, ListN.length, ListN.get_or, ListN.drop}
-use Rattle.model.specs.declared.{State.State, Tested.TheVariants.Holds, Tested.TheVariants.Fails, Tested.TheVariants.Unsure, Refusal.Refusal, Refusal.TheVariants.ImageLength, Refusal.TheVariants.MarkOrLength, Refusal.TheVariants.Starts, Refusal.TheVariants.Entries, Refusal.TheVariants.Malformed, Refusal.TheVariants.NoAction, Refusal.TheVariants.NoCondition, Refusal.TheVariants.NotNamedOnce, Refusal.TheVariants.Typing, Refusal.TheVariants.Binding, Refusal.TheVariants.SetsShort, Refusal.TheVariants.Initialisation, Refusal.TheVariants.Speech, Refusal.TheVariants.StoreLength, Refusal.TheVariants.ParameterCount, Refusal.TheVariants.ParameterValue, Refusal.TheVariants.ConditionFalse, Refusal.TheVariants.NoState, Refusal.TheVariants.SlotValue, Refusal.TheVariants.LabelShort, Refusal.TheVariants.BudgetOver, Verdict.Verdict, Verdict.TheVariants.Accepted, Verdict.TheVariants.Refused, Stepped.Stepped, Stepped.TheVariants.Moved, Stepped.TheVariants.NotMoved, Outcome.TheVariants.Ends, Outcome.TheVariants.Jumps, Outcome.TheVariants.Stops}
+use Rattle.model.specs.declared.{State.State, Tested.TheVariants.Holds, Tested.TheVariants.Fails, Tested.TheVariants.Unsure, Refusal.Refusal, Refusal.TheVariants.ImageLength, Refusal.TheVariants.MarkOrLength, Refusal.TheVariants.Starts, Refusal.TheVariants.Entries, Refusal.TheVariants.Malformed, Refusal.TheVariants.NoAction, Refusal.TheVariants.NoCondition, Refusal.TheVariants.NotNamedOnce, Refusal.TheVariants.Typing, Refusal.TheVariants.Binding, Refusal.TheVariants.SetsShort, Refusal.TheVariants.Initialisation, Refusal.TheVariants.Speech, Refusal.TheVariants.StoreLength, Refusal.TheVariants.ParameterCount, Refusal.TheVariants.ParameterValue, Refusal.TheVariants.ConditionFalse, Refusal.TheVariants.NoState, Refusal.TheVariants.SlotValue, Refusal.TheVariants.LabelShort, Refusal.TheVariants.BudgetOver, Outcome.TheVariants.Ends, Outcome.TheVariants.Jumps, Outcome.TheVariants.Stops}
 use Rattle.model.specs.Limits.{limits}
-use Rattle.model.specs.Answers.{state, variable, row, after, unless, each}
+use Rattle.model.specs.Answers.{state, variable, row, after, unless, each, Verdict, Stepped}
 use Rattle.model.specs.Values.{mark, same, of_size}
 use Rattle.model.specs.Image.{Tables, Entry, none, length_fits, marked, trailer_of, starts_fit, tables_of, entries_right, size_of, entry_of, type_of}
 use Rattle.model.specs.Rows.{action, expression, formed, is_root, named_once}
@@ -59,8 +59,8 @@ pub record Checked : Type 0 where
   pub sets : List ℕ
 
 abbrev pub checked_as : Verdict → List ℕ → List ℕ → Checked
-checked_as Accepted masks sets = record { answer = Accepted; sets = masks ++ drop (length masks) sets }
-checked_as (Refused y) masks sets = record { answer = Refused y; sets = sets }
+checked_as (Ok _) masks sets = record { answer = Ok tt; sets = masks ++ drop (length masks) sets }
+checked_as (Err y) masks sets = record { answer = Err y; sets = sets }
 
 -- check: "entry s holds the mask of variables surely defined on entering state s; later entries keep their content"
 unfoldable pub check : List ℕ → List ℕ → Checked
@@ -109,8 +109,8 @@ pub record Started : Type 0 where
   pub store : List ℤ
 
 abbrev pub started_as : Verdict → List ℤ → List ℤ → Started
-started_as Accepted m store = record { answer = Accepted; store = m }
-started_as (Refused y) m store = record { answer = Refused y; store = store }
+started_as (Ok _) m store = record { answer = Ok tt; store = m }
+started_as (Err y) m store = record { answer = Err y; store = store }
 
 unfoldable pub start : List ℕ → List ℤ → List ℤ → Started
 start s params store = started_as (start_verdict s params store) (started (tables_of s) params) store
@@ -141,7 +141,7 @@ pub record StepDone : Type 0 where
   pub label : List ℤ
 
 abbrev pub stayed : Refusal → List ℤ → List ℤ → StepDone
-stayed y store label = record { answer = NotMoved y; store = store; label = label }
+stayed y store label = record { answer = Err y; store = store; label = label }
 
 -- "If it moves: next state, words read, units used, store, and ten label words. Later label words stay"; "The end of an
 -- action without a jump is 21 or 26 at the state's row"
@@ -150,7 +150,7 @@ moved_as r at budget store label =
     elim r.out [
       | Ends ↦ stayed (blocked_at at r.st.label) store label
       | Jumps q ↦ record {
-        answer = Moved (record { next = q; words = r.st.words; units = budget - r.st.left });
+        answer = Ok (record { next = q; words = r.st.words; units = budget - r.st.left });
         store = r.st.store;
         label = label_words r.st.label ++ drop limits.label label;
       }
@@ -158,8 +158,8 @@ moved_as r at budget store label =
     ]
 
 abbrev pub stepped_as : Verdict → StepDone → List ℤ → List ℤ → StepDone
-stepped_as Accepted done store label = done
-stepped_as (Refused y) done store label = stayed y store label
+stepped_as (Ok _) done store label = done
+stepped_as (Err y) done store label = stayed y store label
 
 unfoldable pub step : List ℕ → State → List ℤ → List ℕ → ℕ → List ℤ → StepDone
 step s q store script budget label =

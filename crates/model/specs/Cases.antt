@@ -1,9 +1,9 @@
 -- The starred cases of 01 ("Worked automaton and edges") and one for each item of "Tempting and wrong", as one list. Assumes
 -- nothing.
 use mathlib.Core.{Path.◌≡◌, List.List, List.[], List.◌∷◌, List.◌++◌}
-use Rattle.std.specs.Prelude.{ℕ, ◌+◌, ◌*◌}
+use Rattle.std.specs.Prelude.{ℕ, ◌+◌, ◌*◌, Ok, Err}
 use lib.{IntN.ℤ, IntN.pos, IntN.negsuc, ListN.length, ListN.replicate}
-use Rattle.model.specs.declared.{State.State, Fields.Fields, Image.Image, Refusal.TheVariants.Initialisation, Refusal.TheVariants.Speech, Refusal.TheVariants.Blocked, Refusal.TheVariants.Undefined, Refusal.TheVariants.ParameterValue, Refusal.TheVariants.BudgetSpent, Refusal.Refusal, Verdict.TheVariants.Accepted, Verdict.TheVariants.Refused, Stepped.TheVariants.Moved, Stepped.TheVariants.NotMoved}
+use Rattle.model.specs.declared.{State.State, Fields.Fields, Image.Image, Refusal.TheVariants.Initialisation, Refusal.TheVariants.Speech, Refusal.TheVariants.Blocked, Refusal.TheVariants.Undefined, Refusal.TheVariants.ParameterValue, Refusal.TheVariants.BudgetSpent, Refusal.Refusal}
 use Rattle.model.specs.Answers.{state, variable, row}
 use Rattle.model.specs.Bytes.{bytes_of}
 use Rattle.model.specs.Image.{Entry, none, bool, int}
@@ -173,16 +173,16 @@ abbrev pub silent : List ℤ
 silent = (negsuc 0 ∷ replicate 9 (pos 0)) ++ (pos 9 ∷ [])
 
 abbrev pub refused : Refusal → List ℕ → Checked
-refused y sets = record { answer = Refused y; sets = sets }
+refused y sets = record { answer = Err y; sets = sets }
 
 abbrev pub accepted : List ℕ → Checked
-accepted sets = record { answer = Accepted; sets = sets }
+accepted sets = record { answer = Ok tt; sets = sets }
 
 abbrev pub stays : Refusal → List ℤ → StepDone
-stays y store = record { answer = NotMoved y; store = store; label = old }
+stays y store = record { answer = Err y; store = store; label = old }
 
 abbrev pub moves : ℕ → ℕ → List ℤ → List ℤ → StepDone
-moves q units store label = record { answer = Moved (record { next = state q; words = 0; units = units }); store = store; label = label }
+moves q units store label = record { answer = Ok (record { next = state q; words = 0; units = units }); store = store; label = label }
 
 unfoldable pub cases : List Case
 cases =
@@ -190,8 +190,8 @@ cases =
     ∷ checks writer (7 ∷ 7 ∷ 7 ∷ 7 ∷ []) (accepted (2 ∷ 3 ∷ 3 ∷ 7 ∷ []))
     -- what the lister writes for the table writer
     ∷ lists writer (heading ++ (48 ∷ 32 ∷ 53 ∷ 32 ∷ 49 ∷ 10 ∷ 49 ∷ 32 ∷ 50 ∷ 57 ∷ 32 ∷ 50 ∷ 10 ∷ 50 ∷ 32 ∷ 51 ∷ 48 ∷ 32 ∷ 50 ∷ 10 ∷ []))
-    ∷ starts writer (pos 2 ∷ []) (pos 8 ∷ pos 8 ∷ []) (record { answer = Accepted; store = undefined ∷ pos 2 ∷ [] })
-    ∷ starts writer (pos 32768 ∷ []) (pos 8 ∷ pos 8 ∷ []) (record { answer = Refused (ParameterValue (variable 1)); store = pos 8 ∷ pos 8 ∷ [] })
+    ∷ starts writer (pos 2 ∷ []) (pos 8 ∷ pos 8 ∷ []) (record { answer = Ok tt; store = undefined ∷ pos 2 ∷ [] })
+    ∷ starts writer (pos 32768 ∷ []) (pos 8 ∷ pos 8 ∷ []) (record { answer = Err (ParameterValue (variable 1)); store = pos 8 ∷ pos 8 ∷ [] })
     -- State 0 moves to 1, no communication, 3 units, no words
     ∷ steps writer (state 0) (undefined ∷ pos 2 ∷ []) [] 1000000 old (moves 1 3 (pos 0 ∷ pos 2 ∷ []) silent)
     -- State 1, i 5, q 2: label 1, 2, 5, 2; to 1; i 6; 6 units. Budget 5: 25 at row 19

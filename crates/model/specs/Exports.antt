@@ -1,11 +1,11 @@
 -- The calls as the C driver has them, "on numbers and byte slices (little-endian words; part words aren't counted and stay)",
 -- and what the lister writes (01, "What we are building", "Worked automaton and edges"). Assumes nothing.
 use mathlib.Core.{Bool.true, Bool.false, List.List, List.[], List.◌∷◌, List.◌++◌, List.map}
-use Rattle.std.specs.Prelude.{ℕ, zero, suc, ◌+◌, ◌*◌, ◌/◌, ◌%◌, ◌^◌}
+use Rattle.std.specs.Prelude.{ℕ, zero, suc, ◌+◌, ◌*◌, ◌/◌, ◌%◌, ◌^◌, Ok, Err}
 use lib.{Dec.ltb, IntN.ℤ, ListN.length, ListN.get_or, ListN.take, ListN.replicate}
-use Rattle.model.specs.declared.{Refusal.Refusal, Verdict.Verdict, Verdict.TheVariants.Accepted, Verdict.TheVariants.Refused, Stepped.Stepped, Stepped.TheVariants.Moved, Stepped.TheVariants.NotMoved}
+use Rattle.model.specs.declared.{Refusal.Refusal}
 use Rattle.model.specs.Limits.{limits}
-use Rattle.model.specs.Answers.{state, number, place}
+use Rattle.model.specs.Answers.{state, number, place, Verdict, Stepped}
 use Rattle.model.specs.Bytes.{unsigned, words_of, signed_words, written}
 use Rattle.model.specs.Masks.{digit}
 use Rattle.model.specs.Image.{tables_of, none}
@@ -16,13 +16,13 @@ abbrev pub pack_refusal : Refusal → ℕ
 pack_refusal y = number y + place y * 2 ^ 16
 
 abbrev pub pack_verdict : Verdict → ℕ
-pack_verdict Accepted = 0
-pack_verdict (Refused y) = pack_refusal y
+pack_verdict (Ok _) = 0
+pack_verdict (Err y) = pack_refusal y
 
 -- a move: the next state in bits 8 to 15, the units used in bits 16 to 39, the words read in bits 40 to 63
 abbrev pub pack_stepped : Stepped → ℕ
-pack_stepped (Moved m) = m.next.0 * 2 ^ 8 + (m.units * 2 ^ 16 + m.words * 2 ^ 40)
-pack_stepped (NotMoved y) = pack_refusal y
+pack_stepped (Ok m) = m.next.0 * 2 ^ 8 + (m.units * 2 ^ 16 + m.words * 2 ^ 40)
+pack_stepped (Err y) = pack_refusal y
 
 -- signed 32-bit words written over a byte slice
 abbrev pub written_back : List ℤ → List ℕ → List ℕ
@@ -77,8 +77,8 @@ lines rows variables s (m ∷ ms) =
     decimal s (32 ∷ decimal (get_or rows s none) (32 ∷ decimal (count m variables) (10 ∷ lines rows variables (suc s) ms)))
 
 abbrev pub listed : Verdict → List ℕ → List ℕ
-listed Accepted text = text
-listed (Refused y) text = decimal (number y) (32 ∷ decimal (place y) (10 ∷ []))
+listed (Ok _) text = text
+listed (Err y) text = decimal (number y) (32 ∷ decimal (place y) (10 ∷ []))
 
 -- what the lister writes for an image: "A refused image gives one line, number and place"
 unfoldable pub listing : List ℕ → List ℕ

@@ -1,9 +1,9 @@
 -- Figure 2 of the report, rule by rule as printed, with match and accept of section 3.4 and appendix B.2. A for is its
 -- expansion. Derivations are data: what they cost, choose and read are functions of them. Assumes nothing.
 use mathlib.Core.{Path.◌≡◌, Bool.true, Bool.false, Bool.cond, List.List, List.[], List.◌∷◌, List.◌++◌, List.map}
-use Rattle.std.specs.Prelude.{ℕ, zero, suc, ◌+◌}
+use Rattle.std.specs.Prelude.{ℕ, zero, suc, ◌+◌, Some, None}
 use lib.{Dec.eqb, IntN.ℤ, IntN.pos}
-use Rattle.model.specs.declared.{State.State, Variable.Variable, Gate.Gate, Value.TheVariants.Is, Value.TheVariants.Unknown, Tested.TheVariants.Holds, Tested.TheVariants.Fails, Tested.TheVariants.Unsure}
+use Rattle.model.specs.declared.{State.State, Variable.Variable, Gate.Gate, Tested.TheVariants.Holds, Tested.TheVariants.Fails, Tested.TheVariants.Unsure}
 use Rattle.model.specs.Values.{same, of_size}
 use Rattle.model.specs.Image.{Tables, none, size_of}
 use Rattle.model.specs.Trees.{Exp, Pat, any, bind, equals, guarded, Offer, emit, receive, Gets, OfType, Action, at, null, assign, choose, reset, communicate, to, then, select, case, while, for, Branches, branch, Arms, arm}
@@ -30,7 +30,7 @@ match_of x z m (guarded p e) =
 
 -- accept(v, ρ, O) of section 3.4
 unfoldable pub accept : Tables → ℤ → List ℤ → Offer → Found
-accept x z m (emit e) = elim (eval x e m) [ Is a ↦ elim (same a z) [ true ↦ found m | false ↦ fail ] | Unknown ↦ fail ]
+accept x z m (emit e) = elim (eval x e m) [ Some a ↦ elim (same a z) [ true ↦ found m | false ↦ fail ] | None ↦ fail ]
 accept x z m (receive p) = match_of x z m p
 
 -- "v ∈ T"
@@ -54,7 +54,7 @@ pub data Each {A : Type 0} (R : A → ℤ → Type 0) : List A → List ℤ → 
   one_more : {i : A} {is : List A} {z : ℤ} {zs : List ℤ} → R i z → Each R is zs → Each R (i ∷ is) (z ∷ zs)
 
 abbrev pub Evals : Tables → List ℤ → List Gets → List ℤ → Type 0
-Evals x m is zs = Each (λ i z. eval x i.e m ≡ Is z) is zs
+Evals x m is zs = Each (λ i z. eval x i.e m ≡ Some z) is zs
 
 abbrev pub Chosen : Tables → List OfType → List ℤ → Type 0
 Chosen x is zs = Each (λ i z. OfThe x i.t z) is zs
@@ -109,7 +109,7 @@ pub data Does (x : Tables) : Action → List ℤ → Label → Next → List ℤ
   d_leave : {r : ℕ} {a b : Action} {m n : List ℤ} {l : Label} {q : State} → Does x a m l (onto q) n → Does x (at r (then a b)) m l (onto q) n
   d_select : {r i : ℕ} {bs : Branches} {a : Action} {m n : List ℤ} {l : Label} {s : Next} → Nth bs i a → Does x a m l s n
       → Does x (at r (select bs)) m l s n
-  d_case : {r : ℕ} {e : Exp} {arms : Arms} {a : Action} {z : ℤ} {m n k : List ℤ} {l : Label} {s : Next} → eval x e m ≡ Is z
+  d_case : {r : ℕ} {e : Exp} {arms : Arms} {a : Action} {z : ℤ} {m n k : List ℤ} {l : Label} {s : Next} → eval x e m ≡ Some z
       → Taken x z m arms a n → Does x a n l s k → Does x (at r (case e arms)) m l s k
   d_again : {r : ℕ} {e : Exp} {a : Action} {m n : List ℤ} {l : Label} {s : Next} → test x e m ≡ Holds
       → Does x (at none (then a (at r (while e a)))) m l s n → Does x (at r (while e a)) m l s n

@@ -1,9 +1,9 @@
 -- The run of an action (report, section 3.4 and Figure 2; 01, "The step"; refusals 21 to 27): what it does with a script and
 -- a budget. Assumes nothing.
 use mathlib.Core.{Bool.Bool, Bool.true, Bool.false, Bool.not, Bool.cond, Bool.◌&&◌, Bool.◌||◌, List.List, List.[], List.◌∷◌, List.◌++◌}
-use Rattle.std.specs.Prelude.{ℕ, zero, suc, ◌+◌, ◌-◌, ◌/◌}
+use Rattle.std.specs.Prelude.{ℕ, zero, suc, ◌+◌, ◌-◌, ◌/◌, Option, Some, None}
 use lib.{Dec.eqb, Dec.ltb, IntN.ℤ, IntN.pos, IntN.negsuc, ListN.length, ListN.get_or, ListN.set, ListN.replicate, Signed.lt_z, Signed.le_z}
-use Rattle.model.specs.declared.{Gate.Gate, Variable.Variable, Value.Value, Value.TheVariants.Is, Value.TheVariants.Unknown, Tested.Tested, Tested.TheVariants.Holds, Tested.TheVariants.Fails, Tested.TheVariants.Unsure, Refusal.Refusal, Refusal.TheVariants.Blocked, Refusal.TheVariants.Undefined, Refusal.TheVariants.ScriptEnded, Refusal.TheVariants.WordOutOfRange, Refusal.TheVariants.BudgetSpent, Refusal.TheVariants.BlockedSpoken, Refusal.TheVariants.SecondCommunication, Outcome.Outcome, Outcome.TheVariants.Ends, Outcome.TheVariants.Jumps, Outcome.TheVariants.Stops}
+use Rattle.model.specs.declared.{Gate.Gate, Variable.Variable, Tested.Tested, Tested.TheVariants.Holds, Tested.TheVariants.Fails, Tested.TheVariants.Unsure, Refusal.Refusal, Refusal.TheVariants.Blocked, Refusal.TheVariants.Undefined, Refusal.TheVariants.ScriptEnded, Refusal.TheVariants.WordOutOfRange, Refusal.TheVariants.BudgetSpent, Refusal.TheVariants.BlockedSpoken, Refusal.TheVariants.SecondCommunication, Outcome.Outcome, Outcome.TheVariants.Ends, Outcome.TheVariants.Jumps, Outcome.TheVariants.Stops}
 use Rattle.model.specs.Limits.{limits}
 use Rattle.model.specs.Answers.{row}
 use Rattle.model.specs.Bytes.{word_at}
@@ -43,16 +43,16 @@ apply_binary h (comparison Less) a b = of_bool (lt_z a b)
 apply_binary h (comparison AtMost) a b = of_bool (le_z a b)
 
 -- eval(E, ρ, v); "And, or evaluate both operands"
-unfoldable pub eval : Tables → Exp → List ℤ → Value
-eval x (var v) m = elim (defined x m v) [ true ↦ Is (slot x m v) | false ↦ Unknown ]
-eval x (const t z) m = Is z
-eval x (unary o e) m = elim (eval x e m) [ Is a ↦ Is (apply_unary x.half o a) | Unknown ↦ Unknown ]
+unfoldable pub eval : Tables → Exp → List ℤ → Option ℤ
+eval x (var v) m = elim (defined x m v) [ true ↦ Some (slot x m v) | false ↦ None ]
+eval x (const t z) m = Some z
+eval x (unary o e) m = elim (eval x e m) [ Some a ↦ Some (apply_unary x.half o a) | None ↦ None ]
 eval x (binary o d e) m =
-    elim (eval x d m) [ Is a ↦ elim (eval x e m) [ Is b ↦ Is (apply_binary x.half o a b) | Unknown ↦ Unknown ] | Unknown ↦ Unknown ]
+    elim (eval x d m) [ Some a ↦ elim (eval x e m) [ Some b ↦ Some (apply_binary x.half o a b) | None ↦ None ] | None ↦ None ]
 
 -- eval(E, ρ, true), eval(E, ρ, false)
 unfoldable pub test : Tables → Exp → List ℤ → Tested
-test x e m = elim (eval x e m) [ Is a ↦ elim (is_zero a) [ true ↦ Fails | false ↦ Holds ] | Unknown ↦ Unsure ]
+test x e m = elim (eval x e m) [ Some a ↦ elim (is_zero a) [ true ↦ Fails | false ↦ Holds ] | None ↦ Unsure ]
 
 -- match(v, ρ, P), and a condition that reads an undefined variable told apart
 pub data Match : Type 0 where
@@ -136,8 +136,8 @@ reading_of x t script r s k =
     reading script r s (λ z u. elim (of_size x.half (size_of x t) z) [ true ↦ k z u | false ↦ gives (Stops (WordOutOfRange (row r))) u ])
 
 -- k of a value; "undefined variable read"
-unfoldable pub valued : Value → ℕ → St → (ℤ → Res) → Res
-valued y r s k = elim y [ Is z ↦ k z | Unknown ↦ gives (Stops (Undefined (row r))) s ]
+unfoldable pub valued : Option ℤ → ℕ → St → (ℤ → Res) → Res
+valued y r s k = elim y [ Some z ↦ k z | None ↦ gives (Stops (Undefined (row r))) s ]
 
 -- "blocked, nothing communicated", or "blocked after communicating"
 unfoldable pub blocked_at : ℕ → Label → Refusal

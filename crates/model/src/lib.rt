@@ -22,7 +22,8 @@ pub struct Gate(pub u16);
 #[derive(Clone, Copy)]
 pub struct Row(pub u16);
 
-// The four fields of a row.
+// The four fields of a row. The code stays a number: document 01 has it matched by ranges, and the definitions (shape_of) go
+// by it.
 #[derive(Clone, Copy)]
 pub struct Fields {
     pub code: u16,
@@ -108,7 +109,7 @@ impl Image {
 
     pub const BUDGET: u32 = 1000000;
 
-    // No row, in a field that may name one.
+    // No row, in a field that may name one: a number and no Option, since it is the image's form.
     pub const NONE: u16 = 0xFFFF;
 
     // Types 0 and 1.
@@ -119,7 +120,7 @@ impl Image {
     // Half the number of int's values.
     pub const HALF: u16 = 32768;
 
-    // What a store holds for an undefined variable: no int.
+    // What a store holds for an undefined variable: no int. A number and no Option, since C lends stores as words.
     pub const UNDEFINED: i32 = 65536;
 
     // The constants are the limits that the definitions name.
@@ -184,7 +185,7 @@ pub enum Refusal {
 }
 
 impl Refusal {
-    // The number of the table.
+    // The number of the table. Two cases share 6, so that no discriminant says it.
     pub fn number(self) -> u16
         ensures { result ≡ number self }
     {
@@ -220,7 +221,7 @@ impl Refusal {
         }
     }
 
-    // The place of the table.
+    // The place of the table: its cases are the table's, and no derive gives them.
     pub fn place(self) -> u16
         ensures { result ≡ place self }
     {
@@ -257,32 +258,12 @@ impl Refusal {
     }
 }
 
-// What check and start give, and each stage of the calls.
-#[derive(Clone, Copy)]
-pub enum Verdict {
-    Accepted,
-    Refused(Refusal),
-}
-
 // A step that moves: the next state, the words read, the units used.
 #[derive(Clone, Copy)]
 pub struct Move {
     pub next: State,
     pub words: u32,
     pub units: u32,
-}
-
-#[derive(Clone, Copy)]
-pub enum Stepped {
-    Moved(Move),
-    NotMoved(Refusal),
-}
-
-// The value of an expression, or that it reads an undefined variable.
-#[derive(Clone, Copy)]
-pub enum Value {
-    Is(i32),
-    Unknown,
 }
 
 // A condition: a bool expression tested.

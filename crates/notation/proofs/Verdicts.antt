@@ -1,10 +1,11 @@
 -- What check's verdict says of an image, for what is written of it. Assumes nothing.
+use Rattle.std.specs.Prelude.{Err}
 use mathlib.Core.{Path.◌≡◌, Path.refl, Path.sym, Path.ap, Path.◌∙◌, Bool.Bool, Bool.true, Bool.false, List.List}
 use Prim.Native.Nat.{ℕ, ◌≤◌}
 use native.Mathlib.{Omega.arith}
 use lib.{Dec.leb, ListN.length}
-use Rattle.model.specs.declared.{Refusal.Refusal, Refusal.TheVariants.ImageLength, Refusal.TheVariants.MarkOrLength, Refusal.TheVariants.Starts, Refusal.TheVariants.Entries, Refusal.TheVariants.SetsShort, Verdict.Verdict, Verdict.TheVariants.Refused}
-use Rattle.model.specs.Answers.{number, after, unless}
+use Rattle.model.specs.declared.{Refusal.Refusal, Refusal.TheVariants.ImageLength, Refusal.TheVariants.MarkOrLength, Refusal.TheVariants.Starts, Refusal.TheVariants.Entries, Refusal.TheVariants.SetsShort}
+use Rattle.model.specs.Answers.{number, after, unless, Verdict}
 use Rattle.model.specs.Image.{length_fits, marked, trailer_of, starts_fit, tables_of, entries_right}
 use Rattle.model.specs.Calls.{rows_verdict, rules_verdict, image_verdict, flow_verdict, check_verdict}
 use Rattle.model.proofs.Order.{after-assoc}
@@ -22,22 +23,22 @@ gave-explained g = rw (← g.checked)
 -- a stage passed by an image that is refused with another number
 record Past (b : Bool) (v : Verdict) (y : Refusal) : Type 0 where
   passed : b ≡ true
-  rest : v ≡ Refused y
+  rest : v ≡ Err y
 
-past : (b : Bool) (x y : Refusal) (v : Verdict) → after (unless b x) v ≡ Refused y → (number x ≡ number y → ⊥) → Past b v y
+past : (b : Bool) (x y : Refusal) (v : Verdict) → after (unless b x) v ≡ Err y → (number x ≡ number y → ⊥) → Past b v y
 unfolding after
 past true x y v e h = record { passed = refl; rest = e }
 past false x y v e h = let z : x ≡ y = cc in absurd (h (ap number z))
 
 -- 1 to 3 stand before all others
-module _ {s : List ℕ} {v : Verdict} {m : List ℕ} (g : Gave s v m) (y : Refusal) (e : v ≡ Refused y) where
+module _ {s : List ℕ} {v : Verdict} {m : List ℕ} (g : Gave s v m) (y : Refusal) (e : v ≡ Err y) where
   abbrev later : Verdict
   later = after (unless (entries_right (tables_of s)) Entries) (after (rows_verdict (tables_of s)) (rules_verdict (tables_of s)))
 
   abbrev last : Verdict
   last = after (unless (leb (length (tables_of s).states) 64) SetsShort) (flow_verdict (tables_of s))
 
-  all : after (unless (length_fits s) ImageLength) (after (unless (marked s) MarkOrLength) (after (unless (starts_fit (trailer_of s)) Starts) (after later last))) ≡ Refused y
+  all : after (unless (length_fits s) ImageLength) (after (unless (marked s) MarkOrLength) (after (unless (starts_fit (trailer_of s)) Starts) (after later last))) ≡ Err y
   unfolding check_verdict image_verdict
   all =
       ap (λ (w : Verdict). after (unless (length_fits s) ImageLength) (after (unless (marked s) MarkOrLength) w)) (sym (after-assoc (unless (starts_fit (trailer_of s)) Starts) later last))

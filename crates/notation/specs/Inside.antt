@@ -2,11 +2,12 @@
 use mathlib.Core.{List.List}
 use Rattle.std.specs.Prelude.{ℕ, ◌<◌, ◌≤◌, length}
 use Rattle.model.specs.declared.{Image.Image}
+use Rattle.notation.specs.declared.Table.{Table}
 use Rattle.model.specs.Image.{trailer_of}
 use Rattle.image.specs.Located.{Located}
 use Rattle.notation.specs.Whole.{count_of}
 
-pub record EntryOf (s : List ℕ) (i : Image) (k q : ℕ) : Type 0 where
+pub record EntryOf (s : List ℕ) (i : Image) (k : Table) (q : ℕ) : Type 0 where
   pub located : Located s i
   pub inside : q < count_of i k
 

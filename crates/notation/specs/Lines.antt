@@ -121,13 +121,3 @@ SPOKEN-TAU = 114
 
 abbrev pub SPOKEN-GATE : ℕ
 SPOKEN-GATE = 115
-
--- tables by number: these three; any other number writes the states, each as the line of that number
-abbrev pub TYPE-TABLE : ℕ
-TYPE-TABLE = 0
-
-abbrev pub VARIABLE-TABLE : ℕ
-VARIABLE-TABLE = 1
-
-abbrev pub ROW-TABLE : ℕ
-ROW-TABLE = 2

@@ -180,10 +180,9 @@ ended [] = []
 ended (s ∷ ss) = bytes s ++ (10 ∷ ended ss)
 
 -- line k is how a row of code k is written
-unfoldable pub notation : List ℕ
-notation =
-    ended
-    (replicate 1 "?"
+abbrev pub notation_lines : List String
+notation_lines =
+    replicate 1 "?"
     ++ variables
     ++ replicate 14 "?"
     ++ operators
@@ -203,4 +202,8 @@ notation =
     ++ roots
     ++ sets
     ++ refusals
-    ++ graphs)
+    ++ graphs
+
+-- the notation as one text
+unfoldable pub notation : List ℕ
+notation = ended notation_lines

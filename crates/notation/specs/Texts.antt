@@ -7,7 +7,7 @@ use Rattle.model.specs.declared.Fields.{Fields}
 use Rattle.model.specs.Image.{Tables, none, bool, int, fields_of}
 use Rattle.model.specs.Exports.{decimal}
 use Rattle.text.specs.Emit.{bytes, literal}
-use Rattle.notation.specs.declared.{Aim.Aim, Style.Style}
+use Rattle.notation.specs.declared.{Lead.Lead, Lead.TheVariants.Nothing, Lead.TheVariants.Comma, Lead.TheVariants.Where, Aim.Aim, Style.Style}
 use Rattle.notation.specs.Table.{notation}
 use Rattle.notation.specs.Lines.{FALSE, TRUE, INT, VALUE, TAU, COMMUNICATE}
 
@@ -17,9 +17,14 @@ line_from zero s = s
 line_from (suc k) [] = []
 line_from (suc k) (b ∷ s) = elim (eqb b 10) [ true ↦ line_from k s | false ↦ line_from (suc k) s ]
 
--- 1 for a line's end
-unfoldable pub ends_by : ℕ → ℕ
-ends_by b = elim (eqb b 10) [ true ↦ 1 | false ↦ 0 ]
+-- a line without its end and what stands after it
+unfoldable pub up_to_end : List ℕ → List ℕ
+up_to_end [] = []
+up_to_end (b ∷ s) = elim (eqb b 10) [ true ↦ [] | false ↦ b ∷ up_to_end s ]
+
+-- line k of the notation
+unfoldable pub line_of : ℕ → List ℕ
+line_of k = up_to_end (line_from k notation)
 
 -- the texts of 0 to n - 1, one after another
 unfoldable pub each : (ℕ → List ℕ) → ℕ → List ℕ
@@ -101,12 +106,12 @@ pub record Leads : Type 0 where
   pub byte : ℕ
   pub aim : Aim
 
-abbrev pub leads : Char → ℕ → ℕ → ℕ → ℕ → Leads
+abbrev pub leads : Char → ℕ → Lead → ℕ → ℕ → Leads
 leads c r l s d = record { byte = code c; aim = record { row = r; lead = l; shift = s; depth = d } }
 
 -- any other byte stands for no row
 unfoldable pub aim_by : List Leads → ℕ → Aim
-aim_by [] b = record { row = none; lead = 0; shift = 0; depth = 0 }
+aim_by [] b = record { row = none; lead = Nothing; shift = 0; depth = 0 }
 aim_by (m ∷ ms) b = elim (eqb b m.byte) [ true ↦ m.aim | false ↦ aim_by ms b ]
 
 -- two columns deeper, up to 40
@@ -117,21 +122,23 @@ deeper d = elim (ltb d 40) [ true ↦ d + 2 | false ↦ d ]
 unfoldable pub aim_of : Aim → Fields → ℕ → Aim
 aim_of a w b =
     aim_by (
-    leads "A" w.a 0 0 a.depth
-    ∷ leads "B" w.b 0 0 a.depth
-    ∷ leads "C" w.c 0 0 a.depth
-    ∷ leads "D" w.a 0 0 (deeper a.depth)
-    ∷ leads "F" w.b 0 0 (deeper a.depth)
-    ∷ leads "N" w.a 0 20 a.depth
-    ∷ leads "Q" w.c 1 a.shift a.depth
-    ∷ leads "R" w.b 1 a.shift a.depth
-    ∷ leads "W" w.b 2 0 a.depth
+    leads "A" w.a Nothing 0 a.depth
+    ∷ leads "B" w.b Nothing 0 a.depth
+    ∷ leads "C" w.c Nothing 0 a.depth
+    ∷ leads "D" w.a Nothing 0 (deeper a.depth)
+    ∷ leads "F" w.b Nothing 0 (deeper a.depth)
+    ∷ leads "N" w.a Nothing 20 a.depth
+    ∷ leads "Q" w.c Comma a.shift a.depth
+    ∷ leads "R" w.b Comma a.shift a.depth
+    ∷ leads "W" w.b Where 0 a.depth
     ∷ []
     )
     b
 
-unfoldable pub lead_text : ℕ → List ℕ
-lead_text l = elim (eqb l 0) [ true ↦ [] | false ↦ elim (eqb l 1) [ true ↦ bytes ", " | false ↦ bytes " where " ] ]
+unfoldable pub lead_text : Lead → List ℕ
+lead_text Nothing = []
+lead_text Comma = bytes ", "
+lead_text Where = bytes " where "
 
 -- the line of a constant, by its type and value, and of a communication, by its gate
 unfoldable pub constant_line : ℕ → ℕ → ℕ
@@ -169,7 +176,7 @@ row_text (suc n) x st a =
 
 -- line k of the notation, filled in with some fields, for row or state r
 abbrev pub aim_at : ℕ → Aim
-aim_at r = record { row = r; lead = 0; shift = 0; depth = 0 }
+aim_at r = record { row = r; lead = Nothing; shift = 0; depth = 0 }
 
 unfoldable pub line_text : ℕ → Tables → Style → ℕ → Fields → ℕ → List ℕ
 line_text n x st k w r = filled (λ t. row_text n x st t) st (aim_at r) w (line_from k notation)

@@ -1,19 +1,19 @@
 -- What is written of an image: its tables, its rows or its states' actions, the verdict. Assumes nothing.
 use mathlib.Core.{Bool.Bool, Bool.true, Bool.false, List.List, List.[], List.◌++◌}
-use Rattle.std.specs.Prelude.{ℕ, ◌+◌, min}
+use Rattle.std.specs.Prelude.{ℕ, ◌+◌, min, Ok, Err}
 use lib.{Dec.eqb, Dec.ltb, ListN.length, ListN.get_or, ListN.replicate}
-use Rattle.model.specs.declared.{Image.Image, Fields.Fields, Refusal.Refusal, Verdict.Verdict, Verdict.TheVariants.Accepted, Verdict.TheVariants.Refused}
+use Rattle.model.specs.declared.{Image.Image, Fields.Fields, Refusal.Refusal}
 use Rattle.model.specs.Limits.{limits}
-use Rattle.model.specs.Answers.{variable, number, place}
+use Rattle.model.specs.Answers.{variable, number, place, Verdict}
 use Rattle.model.specs.Masks.{bit, inside}
 use Rattle.model.specs.Image.{Tables, none, bool, int, trailer_of, tables_of, size_of, entry_of, fields_of, type_count, variable_count, state_count, row_count}
 use Rattle.model.specs.Calls.{check}
 use Rattle.model.specs.Exports.{decimal}
 use Rattle.text.specs.Emit.{bytes}
-use Rattle.notation.specs.declared.{Style.Style, Filling.Filling}
+use Rattle.notation.specs.declared.{Style.Style, Table.Table, Table.TheVariants.Types, Table.TheVariants.Variables, Table.TheVariants.Rows, Table.TheVariants.States, Filling.Filling}
 use Rattle.notation.specs.Table.{notation}
 use Rattle.notation.specs.Texts.{line_from, each, aim_at, filled, line_text}
-use Rattle.notation.specs.Lines.{TYPE-TABLE, VARIABLE-TABLE, ROW-TABLE, IMAGE, STARTS, COUNTS, LENGTH, TYPES, BOOL-TYPE, INT-TYPE, OTHER-TYPE, VARIABLES, VARIABLE, PARAMETER, DAMAGED, GATES, CONDITION, CONDITION-ROW, STATES, STATE-ROW, STATE, ROWS, ROW, SET, SET-END, ACCEPTED, REFUSED}
+use Rattle.notation.specs.Lines.{IMAGE, STARTS, COUNTS, LENGTH, TYPES, BOOL-TYPE, INT-TYPE, OTHER-TYPE, VARIABLES, VARIABLE, PARAMETER, DAMAGED, GATES, CONDITION, CONDITION-ROW, STATES, STATE-ROW, STATE, ROWS, ROW, SET, SET-END, ACCEPTED, REFUSED}
 
 abbrev pub fields_with : ℕ → ℕ → ℕ → Fields
 fields_with a b c = record { code = 0; a = a; b = b; c = c }
@@ -44,28 +44,23 @@ state_filling x k q = filling k q (get_or x.states q none) 0
 unfoldable pub row_filling : Tables → ℕ → Filling
 row_filling x r = record { line = ROW; fields = fields_of x r }
 
--- entry q of table k
-unfoldable pub filling_of : Tables → ℕ → ℕ → Filling
-filling_of x k q =
-    elim (eqb k TYPE-TABLE) [
-      | true ↦ type_filling x q
-      | false ↦ elim (eqb k VARIABLE-TABLE) [
-        | true ↦ variable_filling x q
-        | false ↦ elim (eqb k ROW-TABLE) [ true ↦ row_filling x q | false ↦ state_filling x k q ]
-      ]
-    ]
+-- entry q of a table
+unfoldable pub filling_of : Tables → Table → ℕ → Filling
+filling_of x Types q = type_filling x q
+filling_of x Variables q = variable_filling x q
+filling_of x Rows q = row_filling x q
+filling_of x (States k) q = state_filling x k q
 
-unfoldable pub count_of : Image → ℕ → ℕ
-count_of i k =
-    elim (eqb k TYPE-TABLE) [
-      | true ↦ type_count i
-      | false ↦ elim (eqb k VARIABLE-TABLE) [ true ↦ variable_count i | false ↦ elim (eqb k ROW-TABLE) [ true ↦ row_count i | false ↦ state_count i ] ]
-    ]
+unfoldable pub count_of : Image → Table → ℕ
+count_of i Types = type_count i
+count_of i Variables = variable_count i
+count_of i Rows = row_count i
+count_of i (States k) = state_count i
 
-unfoldable pub entry_text : Tables → Style → ℕ → ℕ → List ℕ
+unfoldable pub entry_text : Tables → Style → Table → ℕ → List ℕ
 entry_text x st k q = let f = filling_of x k q in line_text limits.rows x st f.line f.fields q
 
-unfoldable pub table_text : Tables → Image → Style → ℕ → List ℕ
+unfoldable pub table_text : Tables → Image → Style → Table → List ℕ
 table_text x i st k = each (entry_text x st k) (count_of i k)
 
 -- 1, 2: the length alone (a longer image is not read on); 3: the trailer
@@ -83,16 +78,16 @@ unfoldable pub tables_text : Tables → Image → Style → List ℕ
 tables_text x i st =
     trailer_text st i
     ++ words_text st TYPES (fields_with 0 0 0) 0
-    ++ table_text x i st TYPE-TABLE
+    ++ table_text x i st Types
     ++ words_text st VARIABLES (fields_with 0 0 0) 0
-    ++ table_text x i st VARIABLE-TABLE
+    ++ table_text x i st Variables
     ++ words_text st GATES (fields_with i.gates 0 0) 0
 
 -- 5 to 7: the states' rows, the condition's row and all rows as they are
 unfoldable pub roots_text : Tables → Image → Style → List ℕ
 roots_text x i st =
     words_text st STATES (fields_with 0 0 0) 0
-    ++ table_text x i st STATE-ROW
+    ++ table_text x i st (States STATE-ROW)
     ++ words_text st CONDITION-ROW (fields_with i.condition 0 0) (state_count i)
 
 unfoldable pub raw_text : Tables → Image → Style → List ℕ
@@ -100,14 +95,14 @@ raw_text x i st =
     tables_text x i st
     ++ roots_text x i st
     ++ words_text st ROWS (fields_with 0 0 0) 0
-    ++ table_text x i st ROW-TABLE
+    ++ table_text x i st Rows
 
 -- free of 1 to 7: the condition and the states' actions in the report's notation
 unfoldable pub listing_text : Tables → Image → Style → List ℕ
 listing_text x i st =
     tables_text x i st
     ++ line_text limits.rows x st CONDITION (fields_with i.condition 0 0) 0
-    ++ table_text x i st STATE
+    ++ table_text x i st (States STATE)
 
 -- the variables below n in a set
 unfoldable pub member_text : ℕ → ℕ → List ℕ
@@ -157,9 +152,9 @@ abbrev pub pointless : Bool → Style
 pointless graph = record { place = none; state = none; graph = graph }
 
 unfoldable pub explained_by : List ℕ → Verdict → List ℕ → List ℕ
-explained_by s Accepted sets =
+explained_by s (Ok tt) sets =
     listing_text (tables_of s) (trailer_of s) (pointless false) ++ accepted_text (pointless false) (trailer_of s) sets
-explained_by s (Refused y) sets =
+explained_by s (Err y) sets =
     let st = pointing (number y) (place y) false in
     shown_text s st (number y) ++ refusal_text st y
 

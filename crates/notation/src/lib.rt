@@ -1,19 +1,21 @@
 // Images written for people, in the report's notation.
 #![tactic(auto)]
 
-ghost use Rattle.std.specs.Prelude.{◌≡◌, ◌++◌, ◌<◌};
-ghost use Rattle.model.specs.Image.{tables_of, fields_of};
-ghost use Rattle.image.specs.Located.{Located};
+ghost use Rattle.std.specs.Prelude.{◌≡◌, ◌<◌};
+ghost use Rattle.model.specs.Image.{fields_of};
+ghost use Rattle.image.specs.Located.{tables, Located};
 ghost use Rattle.text.specs.Emit.{page, Emitted};
+ghost use Rattle.text.specs.Written.{Written};
 ghost use Rattle.notation.specs.Table.{notation};
 ghost use Rattle.notation.specs.Texts.{line_from, filled, row_text};
 ghost use Rattle.notation.specs.Whole.{explained};
 ghost use Rattle.listing.specs.Gave.{Gave};
 
-use image::{fields, row_count, trailer};
-use marks::{aim, line, notation_byte, put_lead, put_plain, row_line};
-use model::{Fields, Image, Verdict};
+use image::{Automaton, trailer};
+use marks::{aim, line, put_lead, put_plain, row_line};
+use model::{Fields, Image, Refusal};
 use ntif::check;
+use text::Page;
 use whole::{pointing, put_accepted, put_listing, put_refusal, put_shown};
 
 pub mod lines;
@@ -21,11 +23,19 @@ mod marks;
 pub mod tables;
 pub mod whole;
 
+// The words before a row.
+#[derive(Clone, Copy)]
+pub enum Lead {
+    Nothing,
+    Comma,
+    Where,
+}
+
 // A row to be written: after which words, how many lines of the notation on, how deep.
 #[derive(Clone, Copy)]
 pub struct Aim {
     pub row: u16,
-    pub lead: u8,
+    pub lead: Lead,
     pub shift: u16,
     pub depth: u16,
 }
@@ -38,6 +48,15 @@ pub struct Style {
     pub graph: bool,
 }
 
+// A table to be written; the states, each as one line of the notation.
+#[derive(Clone, Copy)]
+pub enum Table {
+    Types,
+    Variables,
+    Rows,
+    States(u32),
+}
+
 // A line of the notation, and the fields that fill it in.
 #[derive(Clone, Copy)]
 pub struct Filling {
@@ -46,13 +65,13 @@ pub struct Filling {
 }
 
 // The fields of a row; zeros where there is no such row.
-pub fn row_fields(image: &[u8], i: Image, r: u16) -> Fields
-    requires { Located image.now i }
-    ensures { result ≡ fields_of (tables_of image.now) r }
+pub fn row_fields(x: &Automaton, r: u16) -> Fields
+    requires { Located x.now.image.now x.now.trailer }
+    ensures { result ≡ fields_of (tables x.now) r }
 {
-    let n = row_count(image, i);
+    let n = x.row_count();
     if r < n {
-        return fields(image, i, r);
+        return x.fields(r);
     }
     Fields {
         code: 0,
@@ -64,81 +83,68 @@ pub fn row_fields(image: &[u8], i: Image, r: u16) -> Fields
 
 // A row's text, while rows are left to be gone through.
 #[cycle(put_filled_put_row)]
-fn put_row(
-    image: &[u8],
-    i: Image,
-    st: Style,
-    a: Aim,
-    left: u16,
-    text: &mut [u8],
-    at: usize,
-) -> usize
-    requires { 0 < left → Located image.now i }
-    ensures { Emitted (row_text left (tables_of image.now) st a) (page at text.old) (page result text.new) }
+fn put_row(x: &Automaton, st: Style, a: Aim, left: u16, page: &mut Page<'_>)
+    requires { 0 < left → Located x.now.image.now x.now.trailer }
+    ensures { Written (row_text left (tables x.now) st a) page.old page.new }
 {
     if left == 0 {
-        return at;
+        return;
     }
     if a.row == Image::NONE {
-        return at;
+        return;
     }
-    let w = row_fields(image, i, a.row);
+    let w = row_fields(x, a.row);
     let k = row_line(w) as u32 + a.shift as u32;
-    let body = put_lead(text, at, a.lead);
-    put_filled(image, i, st, a, w, k, left - 1, text, body)
+    put_lead(page, a.lead);
+    put_filled(x, st, a, w, k, left - 1, page);
 }
 
 // A line of the notation, filled in.
 #[cycle(put_filled_put_row)]
 pub(crate) fn put_filled(
-    image: &[u8],
-    i: Image,
+    x: &Automaton,
     st: Style,
     a: Aim,
     w: Fields,
     k: u32,
     left: u16,
-    text: &mut [u8],
-    at: usize,
-) -> usize
-    requires { 0 < left → Located image.now i }
-    ensures { Emitted (filled (λ t. row_text left (tables_of image.now) st t) st a w (line_from k notation)) (page at text.old) (page result text.new) }
+    page: &mut Page<'_>,
+)
+    requires { 0 < left → Located x.now.image.now x.now.trailer }
+    ensures { Written (filled (λ t. row_text left (tables x.now) st t) st a w (line_from k notation)) page.old page.new }
 {
-    let mut j = line(k);
-    let mut end = at;
-    let mut b = notation_byte(j);
-    while b != b'\n' {
-        let t = aim(a, w, b);
-        let row = put_plain(text, end, st, a, w, b);
-        end = put_row(image, i, st, t, left, text, row);
-        j += 1;
-        b = notation_byte(j);
+    let marks = line(k);
+    for b in marks {
+        put_plain(page, st, a, w, *b);
+        put_row(x, st, aim(a, w, *b), left, page);
     }
-    end
 }
 
 // What is written of an image, by what check gave with room for 64 sets.
-fn put_explained(image: &[u8], v: Verdict, sets: &[u64], text: &mut [u8]) -> usize
+fn put_explained(image: &[u8], v: Result<(), Refusal>, sets: &[u64], page: &mut Page<'_>)
     requires { Gave image.now v sets.now }
-    ensures { Emitted (explained image.now) (page 0 text.old) (page result text.new) }
+    ensures { Written (explained image.now) page.old page.new }
 {
     match v {
-        Verdict::Refused(y) => {
+        Err(y) => {
             let n = y.number();
             let p = y.place();
             let st = pointing(n, p, false);
-            let a = put_shown(image, st, n, text, 0);
-            put_refusal(y, st, text, a)
+            put_shown(image, st, n, page);
+            put_refusal(y, st, page);
         }
-        Verdict::Accepted => {
-            let i = trailer(image);
+        Ok(()) => {
+            let x = Automaton {
+                image,
+                trailer: trailer(image),
+            };
             let st = Style {
                 place: Image::NONE,
                 state: Image::NONE,
                 graph: false,
             };
-            let a = put_listing(image, i, st, text, 0);
-            put_accepted(image, i, st, sets, text, a)
+            put_listing(&x, st, page);
+            put_accepted(&x, st, sets, page);
         }
     }
 }
@@ -149,5 +155,7 @@ pub fn explain(image: &[u8], text: &mut [u8]) -> usize
 {
     let mut sets = [0u64; Image::STATES as usize];
     let v = check(image, &mut sets);
-    put_explained(image, v, &sets, text)
+    let mut page = Page::new(text);
+    put_explained(image, v, &sets, &mut page);
+    page.end
 }

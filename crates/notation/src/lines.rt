@@ -1,4 +1,6 @@
-// The lines of the notation that code asks for by number; those of a row are its code's.
+// The lines of the notation that code asks for by number; those of a row are its code's and those of refusals follow by their
+// numbers, so that an enum would be no plainer.
+
 // Constants, by type.
 pub const FALSE: u16 = 67;
 
@@ -81,10 +83,3 @@ pub const REFUSED_BOX: u32 = 113;
 pub const SPOKEN_TAU: u32 = 114;
 
 pub const SPOKEN_GATE: u32 = 115;
-
-// Tables by number: these three; any other number writes the states, each as the line of that number.
-pub const TYPE_TABLE: u32 = 0;
-
-pub const VARIABLE_TABLE: u32 = 1;
-
-pub const ROW_TABLE: u32 = 2;

@@ -1,155 +1,159 @@
 // What the marks of the notation stand for.
-ghost use Rattle.std.specs.Prelude.{◌≡◌, ◌++◌, get_or, drop};
-ghost use Rattle.text.specs.Emit.{page, Emitted};
-ghost use Rattle.notation.specs.Table.{notation};
-ghost use Rattle.notation.specs.Texts.{line_from, ends_by, blanks, padding, type_name, line_end, margin, pointer, line_start, plain_text, deeper, aim_of, lead_text, constant_line, gate_line, row_line};
+ghost use Rattle.std.specs.Prelude.{◌≡◌, [], ◌++◌, get_or, map};
+ghost use Rattle.text.specs.Written.{Written};
+ghost use Rattle.notation.specs.Texts.{line_of, blanks, padding, type_name, line_end, margin, pointer, line_start, plain_text, deeper, aim_of, lead_text, constant_line, gate_line, row_line};
 
 use crate::lines::{COMMUNICATE, FALSE, INT, TAU, TRUE, VALUE};
-use crate::{Aim, Style};
+use crate::{Aim, Lead, Style};
 use model::{Fields, Image};
-use text::{emit, emit_byte, emit_literal, emit_number};
+use text::Page;
 
-const LENGTH: usize = 1490;
+// The lines of the notation.
+const LINES: usize = 116;
 
 // The notation (specs/Table.antt says what its lines are).
-const NOTATION: [u8; LENGTH] = *b"\
-    ?\n\
-    PV0\n\
-    ?\n?\n?\n?\n?\n?\n?\n?\n?\n?\n?\n?\n?\n?\n\
-    Pnot A\n\
-    P(A and B)\n\
-    P(A or B)\n\
-    P(-A)\n\
-    P(A + B)\n\
-    P(A - B)\n\
-    P(A * B)\n\
-    P(A quotient B)\n\
-    P(A remainder B)\n\
-    P(A = B)\n\
-    P(A < B)\n\
-    P(A <= B)\n\
-    ?\n?\n?\n?\n\
-    Pany 5\n\
-    PV0\n\
-    ?\n\
-    PA where B\n\
-    ?\n?\n?\n?\n\
-    \x20!AB\n\
-    \x20?AB\n\
-    ?\n?\n\
-    BQ\n\
-    6Q\n\
-    ?\n\
-    V0 in 3..4\n\
-    LnullE\n\
-    LN := AE\n\
-    LN := any AWE\n\
-    Lreset NE\n\
-    LG0BE\n\
-    Lto S0E\n\
-    AB\n\
-    LselectEAIendE\n\
-    Lcase A isEBIendE\n\
-    L[]EDB\n\
-    L| A ->EFC\n\
-    Lwhile A doEFIendE\n\
-    Lfor A doEFIendE\n\
-    ?\n?\n?\n\
-    V0Q\n\
-    V0Q\n\
-    V0R\n\
-    Pfalse\n\
-    Ptrue\n\
-    P3\n\
-    PT0.1\n\
-    LtauBE\n\
-    image: 0 bytes readE\n\
-    starts: types 0, variables 1, states 2\n\
-    , rows 0Egates 1, condition in row 2\n\
-    , length 0E\n\
-    typesE\n\
-    \x20 T0 bool, number of values 1E\n\
-    \x20 T0 int, number of values 1E\n\
-    \x20 T0, number of values 1E\n\
-    variablesE\n\
-    \x20 V0 6E\n\
-    \x20 V0 6, parameterE\n\
-    \x20 V0 6, second field 2E\n\
-    gates: 0, G1 is tauE\n\
-    condition: AE\n\
-    Mcondition in row 0E\n\
-    statesE\n\
-    MS0 in row 1E\n\
-    Mstate S0EB\n\
-    rowsE\n\
-    L9 0 1 2E\n\
-    \x20 S0 is entered with\n\
-    E\n\
-    acceptedE\n\
-    ?\n\
-    refused 1: image length outside limitsE\n\
-    refused 1: mark or length field wrongE\n\
-    refused 1: starts, table sizes or counts wrongE\n\
-    refused 1: a type or variable entry wrongE\n\
-    refused 1: row malformed: code, field, range, child, list; row 0E\n\
-    refused 1: state's row not an action (condition: not an expression); place 0E\n\
-    refused 1: row not named exactly once; row 0E\n\
-    refused 1: typing; row 0E\n\
-    refused 1: binding; row 0E\n\
-    refused 1: sets buffer shorter than statesE\n\
-    refused 1: initialisation; state 0E\n\
-    refused 1: speech; state 0E\n\
-    digraph automaton {U  node [shape=box, fontname=monospace]U\n\
-    \x20 S0 [label=\"Mstate S0EB\"]U\n\
-    \x20 S0 -> S1 [label=\"\n\
-    \"]U\n\
-    }U\n\
-    \x20 refused [label=\"\n\
-    \x20tau\n\
-    \x20G0\n";
+const NOTATION: [&str; LINES] = [
+    "?",
+    "PV0",
+    "?",
+    "?",
+    "?",
+    "?",
+    "?",
+    "?",
+    "?",
+    "?",
+    "?",
+    "?",
+    "?",
+    "?",
+    "?",
+    "?",
+    "Pnot A",
+    "P(A and B)",
+    "P(A or B)",
+    "P(-A)",
+    "P(A + B)",
+    "P(A - B)",
+    "P(A * B)",
+    "P(A quotient B)",
+    "P(A remainder B)",
+    "P(A = B)",
+    "P(A < B)",
+    "P(A <= B)",
+    "?",
+    "?",
+    "?",
+    "?",
+    "Pany 5",
+    "PV0",
+    "?",
+    "PA where B",
+    "?",
+    "?",
+    "?",
+    "?",
+    " !AB",
+    " ?AB",
+    "?",
+    "?",
+    "BQ",
+    "6Q",
+    "?",
+    "V0 in 3..4",
+    "LnullE",
+    "LN := AE",
+    "LN := any AWE",
+    "Lreset NE",
+    "LG0BE",
+    "Lto S0E",
+    "AB",
+    "LselectEAIendE",
+    "Lcase A isEBIendE",
+    "L[]EDB",
+    "L| A ->EFC",
+    "Lwhile A doEFIendE",
+    "Lfor A doEFIendE",
+    "?",
+    "?",
+    "?",
+    "V0Q",
+    "V0Q",
+    "V0R",
+    "Pfalse",
+    "Ptrue",
+    "P3",
+    "PT0.1",
+    "LtauBE",
+    "image: 0 bytes readE",
+    "starts: types 0, variables 1, states 2",
+    ", rows 0Egates 1, condition in row 2",
+    ", length 0E",
+    "typesE",
+    "  T0 bool, number of values 1E",
+    "  T0 int, number of values 1E",
+    "  T0, number of values 1E",
+    "variablesE",
+    "  V0 6E",
+    "  V0 6, parameterE",
+    "  V0 6, second field 2E",
+    "gates: 0, G1 is tauE",
+    "condition: AE",
+    "Mcondition in row 0E",
+    "statesE",
+    "MS0 in row 1E",
+    "Mstate S0EB",
+    "rowsE",
+    "L9 0 1 2E",
+    "  S0 is entered with",
+    "E",
+    "acceptedE",
+    "?",
+    "refused 1: image length outside limitsE",
+    "refused 1: mark or length field wrongE",
+    "refused 1: starts, table sizes or counts wrongE",
+    "refused 1: a type or variable entry wrongE",
+    "refused 1: row malformed: code, field, range, child, list; row 0E",
+    "refused 1: state's row not an action (condition: not an expression); place 0E",
+    "refused 1: row not named exactly once; row 0E",
+    "refused 1: typing; row 0E",
+    "refused 1: binding; row 0E",
+    "refused 1: sets buffer shorter than statesE",
+    "refused 1: initialisation; state 0E",
+    "refused 1: speech; state 0E",
+    "digraph automaton {U  node [shape=box, fontname=monospace]U",
+    "  S0 [label=\"Mstate S0EB\"]U",
+    "  S0 -> S1 [label=\"",
+    "\"]U",
+    "}U",
+    "  refused [label=\"",
+    " tau",
+    " G0",
+];
 
-// A byte of the notation; past its end a line's end.
-pub(crate) fn notation_byte(j: usize) -> u8
-    ensures { result ≡ get_or notation j 10 }
+// Text k of a table; past its end nothing.
+fn text_at(texts: &[&'static str], k: u32) -> &'static [u8]
+    ensures { result.now ≡ get_or (map (λ t. t.now) texts.now) k [] }
 {
-    if j < LENGTH {
-        return NOTATION[j];
+    if (k as usize) < texts.len() {
+        return texts[k as usize].as_bytes();
     }
-    b'\n'
+    b""
 }
 
-fn is_end(b: u8) -> u32
-    ensures { result ≡ ends_by b }
+// Line k of the notation; past its end nothing.
+pub(crate) fn line(k: u32) -> &'static [u8]
+    ensures { result.now ≡ line_of k }
 {
-    if b == b'\n' {
-        return 1;
-    }
-    0
+    text_at(&NOTATION, k)
 }
 
-// Where line k starts.
-pub(crate) fn line(k: u32) -> usize
-    ensures { drop result notation ≡ line_from k notation }
+fn put_blanks(page: &mut Page<'_>, n: u16)
+    ensures { Written (blanks n) page.old page.new }
 {
-    let mut left = k;
-    let mut j = 0;
-    while 0 < left {
-        left = left - is_end(notation_byte(j));
-        j += 1;
+    for k in 0..n {
+        page.emit_byte(b' ');
     }
-    j
-}
-
-fn put_blanks(text: &mut [u8], at: usize, n: u16) -> usize
-    ensures { Emitted (blanks n) (page at text.old) (page result text.new) }
-{
-    let mut end = at;
-    let mut k = 0;
-    while k < n {
-        end = emit_byte(text, end, b' ');
-        k += 1;
-    }
-    end
 }
 
 fn padding(r: u16) -> u16
@@ -167,105 +171,103 @@ fn padding(r: u16) -> u16
     2
 }
 
-fn put_type(text: &mut [u8], at: usize, t: u16) -> usize
-    ensures { Emitted (type_name t) (page at text.old) (page result text.new) }
+fn put_type(page: &mut Page<'_>, t: u16)
+    ensures { Written (type_name t) page.old page.new }
 {
     if t == 0 {
-        return emit(text, at, b"bool");
+        page.emit(b"bool");
+    } else if t == 1 {
+        page.emit(b"int");
+    } else {
+        page.emit_byte(b'T');
+        page.emit_number(t);
     }
-    if t == 1 {
-        return emit(text, at, b"int");
-    }
-    let end = emit_byte(text, at, b'T');
-    emit_number(text, end, t)
 }
 
-fn put_end(text: &mut [u8], at: usize, graph: bool) -> usize
-    ensures { Emitted (line_end graph) (page at text.old) (page result text.new) }
+fn put_end(page: &mut Page<'_>, graph: bool)
+    ensures { Written (line_end graph) page.old page.new }
 {
     if graph {
-        return emit(text, at, b"\\l");
+        page.emit(b"\\l");
+    } else {
+        page.emit_byte(b'\n');
     }
-    emit_byte(text, at, b'\n')
 }
 
-fn put_margin(text: &mut [u8], at: usize, place: u16, row: u16) -> usize
-    ensures { Emitted (margin place row) (page at text.old) (page result text.new) }
+fn put_margin(page: &mut Page<'_>, place: u16, row: u16)
+    ensures { Written (margin place row) page.old page.new }
 {
     if row == place {
-        return emit(text, at, b"> ");
+        page.emit(b"> ");
+    } else {
+        page.emit(b"  ");
     }
-    emit(text, at, b"  ")
 }
 
-fn put_pointer(text: &mut [u8], at: usize, place: u16, row: u16) -> usize
-    ensures { Emitted (pointer place row) (page at text.old) (page result text.new) }
+fn put_pointer(page: &mut Page<'_>, place: u16, row: u16)
+    ensures { Written (pointer place row) page.old page.new }
 {
     if row == place {
-        return emit(text, at, b">>");
+        page.emit(b">>");
     }
-    at
 }
 
-fn put_start(text: &mut [u8], at: usize, st: Style, a: Aim) -> usize
-    ensures { Emitted (line_start st a) (page at text.old) (page result text.new) }
+fn put_start(page: &mut Page<'_>, st: Style, a: Aim)
+    ensures { Written (line_start st a) page.old page.new }
 {
-    let number = put_margin(text, at, st.place, a.row);
-    let column = emit_number(text, number, a.row);
-    let pad = padding(a.row);
-    let indent = put_blanks(text, column, pad);
-    put_blanks(text, indent, a.depth)
+    put_margin(page, st.place, a.row);
+    page.emit_number(a.row);
+    put_blanks(page, padding(a.row));
+    put_blanks(page, a.depth);
 }
 
-fn put_indent(text: &mut [u8], at: usize, depth: u16) -> usize
-    ensures { Emitted (blanks 8 ++ blanks depth) (page at text.old) (page result text.new) }
+fn put_indent(page: &mut Page<'_>, depth: u16)
+    ensures { Written (blanks 8 ++ blanks depth) page.old page.new }
 {
-    let indent = put_blanks(text, at, 8);
-    put_blanks(text, indent, depth)
+    put_blanks(page, 8);
+    put_blanks(page, depth);
 }
 
 // The words before a row.
-pub(crate) fn put_lead(text: &mut [u8], at: usize, lead: u8) -> usize
-    ensures { Emitted (lead_text lead) (page at text.old) (page result text.new) }
+pub(crate) fn put_lead(page: &mut Page<'_>, lead: Lead)
+    ensures { Written (lead_text lead) page.old page.new }
 {
-    if lead == 0 {
-        return at;
+    match lead {
+        Lead::Nothing => {}
+        Lead::Comma => page.emit(b", "),
+        Lead::Where => page.emit(b" where "),
     }
-    if lead == 1 {
-        return emit(text, at, b", ");
-    }
-    emit(text, at, b" where ")
 }
 
 // What a byte of a row's line stands for, if that is no row.
-pub(crate) fn put_plain(text: &mut [u8], at: usize, st: Style, a: Aim, w: Fields, b: u8) -> usize
-    ensures { Emitted (plain_text st a w b) (page at text.old) (page result text.new) }
+pub(crate) fn put_plain(page: &mut Page<'_>, st: Style, a: Aim, w: Fields, b: u8)
+    ensures { Written (plain_text st a w b) page.old page.new }
 {
     match b {
-        b'0' => emit_number(text, at, w.a),
-        b'1' => emit_number(text, at, w.b),
-        b'2' => emit_number(text, at, w.c),
-        b'3' => emit_literal(text, at, w.b),
-        b'4' => emit_literal(text, at, w.c),
-        b'5' => put_type(text, at, w.a),
-        b'6' => put_type(text, at, w.b),
-        b'9' => emit_number(text, at, w.code),
-        b'L' => put_start(text, at, st, a),
-        b'I' => put_indent(text, at, a.depth),
-        b'M' => put_margin(text, at, st.state, a.row),
-        b'P' => put_pointer(text, at, st.place, a.row),
-        b'E' => put_end(text, at, st.graph),
-        b'U' => emit_byte(text, at, b'\n'),
-        b'A' => at,
-        b'B' => at,
-        b'C' => at,
-        b'D' => at,
-        b'F' => at,
-        b'N' => at,
-        b'Q' => at,
-        b'R' => at,
-        b'W' => at,
-        _ => emit_byte(text, at, b),
+        b'0' => page.emit_number(w.a),
+        b'1' => page.emit_number(w.b),
+        b'2' => page.emit_number(w.c),
+        b'3' => page.emit_literal(w.b),
+        b'4' => page.emit_literal(w.c),
+        b'5' => put_type(page, w.a),
+        b'6' => put_type(page, w.b),
+        b'9' => page.emit_number(w.code),
+        b'L' => put_start(page, st, a),
+        b'I' => put_indent(page, a.depth),
+        b'M' => put_margin(page, st.state, a.row),
+        b'P' => put_pointer(page, st.place, a.row),
+        b'E' => put_end(page, st.graph),
+        b'U' => page.emit_byte(b'\n'),
+        b'A' => {}
+        b'B' => {}
+        b'C' => {}
+        b'D' => {}
+        b'F' => {}
+        b'N' => {}
+        b'Q' => {}
+        b'R' => {}
+        b'W' => {}
+        _ => page.emit_byte(b),
     }
 }
 
@@ -278,7 +280,7 @@ fn deeper(d: u16) -> u16
     d
 }
 
-fn aim_at(row: u16, lead: u8, shift: u16, depth: u16) -> Aim
+fn aim_at(row: u16, lead: Lead, shift: u16, depth: u16) -> Aim
     ensures { result ≡ record { row = row; lead = lead; shift = shift; depth = depth } }
 {
     Aim {
@@ -295,16 +297,16 @@ pub(crate) fn aim(a: Aim, w: Fields, b: u8) -> Aim
 {
     let deep = deeper(a.depth);
     match b {
-        b'A' => aim_at(w.a, 0, 0, a.depth),
-        b'B' => aim_at(w.b, 0, 0, a.depth),
-        b'C' => aim_at(w.c, 0, 0, a.depth),
-        b'D' => aim_at(w.a, 0, 0, deep),
-        b'F' => aim_at(w.b, 0, 0, deep),
-        b'N' => aim_at(w.a, 0, 20, a.depth),
-        b'Q' => aim_at(w.c, 1, a.shift, a.depth),
-        b'R' => aim_at(w.b, 1, a.shift, a.depth),
-        b'W' => aim_at(w.b, 2, 0, a.depth),
-        _ => aim_at(Image::NONE, 0, 0, 0),
+        b'A' => aim_at(w.a, Lead::Nothing, 0, a.depth),
+        b'B' => aim_at(w.b, Lead::Nothing, 0, a.depth),
+        b'C' => aim_at(w.c, Lead::Nothing, 0, a.depth),
+        b'D' => aim_at(w.a, Lead::Nothing, 0, deep),
+        b'F' => aim_at(w.b, Lead::Nothing, 0, deep),
+        b'N' => aim_at(w.a, Lead::Nothing, 20, a.depth),
+        b'Q' => aim_at(w.c, Lead::Comma, a.shift, a.depth),
+        b'R' => aim_at(w.b, Lead::Comma, a.shift, a.depth),
+        b'W' => aim_at(w.b, Lead::Where, 0, a.depth),
+        _ => aim_at(Image::NONE, Lead::Nothing, 0, 0),
     }
 }
 

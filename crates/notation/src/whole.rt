@@ -1,38 +1,28 @@
 // The parts of what is written of an image.
 ghost use Rattle.std.specs.Prelude.{◌≡◌, ◌<◌, ◌≤◌, min, length};
-ghost use Rattle.model.specs.Image.{trailer_of, tables_of, variable_count, state_count};
-ghost use Rattle.image.specs.Located.{Located};
-ghost use Rattle.text.specs.Emit.{page, Emitted};
+ghost use Rattle.image.specs.Located.{tables, Located};
+ghost use Rattle.text.specs.Written.{Written};
 ghost use Rattle.notation.specs.Texts.{each};
 ghost use Rattle.notation.specs.Whole.{fields_with, words_text, length_text, trailer_text, tables_text, roots_text, raw_text, listing_text, member_text, set_text, accepted_text, refusal_text, row_place, state_place, pointing, shown_text};
 ghost use Rattle.notation.specs.Inside.{Shown};
 
-use crate::Style;
 use crate::lines::{
-    ACCEPTED, CONDITION, CONDITION_ROW, COUNTS, GATES, IMAGE, LENGTH, REFUSED, ROW_TABLE, ROWS,
-    SET, SET_END, STARTS, STATE, STATE_ROW, STATES, TYPE_TABLE, TYPES, VARIABLE_TABLE, VARIABLES,
+    ACCEPTED, CONDITION, CONDITION_ROW, COUNTS, GATES, IMAGE, LENGTH, REFUSED, ROWS, SET, SET_END,
+    STARTS, STATE, STATE_ROW, STATES, TYPES, VARIABLES,
 };
 use crate::tables::{put_line, put_table, put_words};
-use image::trailer;
+use crate::{Style, Table};
+use image::{Automaton, trailer};
 use masks::{bit, inside};
 use model::{Fields, Image, Refusal};
-use text::{emit, emit_number};
+use text::Page;
 
 // A line without rows, by its fields.
-pub fn put_said(
-    st: Style,
-    k: u32,
-    a: u16,
-    b: u16,
-    c: u16,
-    r: u16,
-    text: &mut [u8],
-    at: usize,
-) -> usize
-    ensures { Emitted (words_text st k (fields_with a b c) r) (page at text.old) (page result text.new) }
+pub fn put_said(st: Style, k: u32, a: u16, b: u16, c: u16, r: u16, page: &mut Page<'_>)
+    ensures { Written (words_text st k (fields_with a b c) r) page.old page.new }
 {
     let w = Fields { code: 0, a, b, c };
-    put_words(st, k, w, r, text, at)
+    put_words(st, k, w, r, page);
 }
 
 fn short_length(image: &[u8]) -> u16
@@ -44,140 +34,124 @@ fn short_length(image: &[u8]) -> u16
     0xFFFF
 }
 
-fn put_length(image: &[u8], st: Style, text: &mut [u8], at: usize) -> usize
-    ensures { Emitted (length_text st image.now) (page at text.old) (page result text.new) }
+fn put_length(image: &[u8], st: Style, page: &mut Page<'_>)
+    ensures { Written (length_text st image.now) page.old page.new }
 {
     let n = short_length(image);
-    put_said(st, IMAGE, n, 0, 0, 0, text, at)
+    put_said(st, IMAGE, n, 0, 0, 0, page);
 }
 
-fn put_trailer(i: Image, st: Style, text: &mut [u8], at: usize) -> usize
-    ensures { Emitted (trailer_text st i) (page at text.old) (page result text.new) }
+fn put_trailer(i: Image, st: Style, page: &mut Page<'_>)
+    ensures { Written (trailer_text st i) page.old page.new }
 {
-    let a = put_said(st, STARTS, i.types, i.variables, i.states, 0, text, at);
-    let b = put_said(st, COUNTS, i.rows, i.gates, i.condition, 0, text, a);
-    put_said(st, LENGTH, i.length, 0, 0, 0, text, b)
+    put_said(st, STARTS, i.types, i.variables, i.states, 0, page);
+    put_said(st, COUNTS, i.rows, i.gates, i.condition, 0, page);
+    put_said(st, LENGTH, i.length, 0, 0, 0, page);
 }
 
-fn put_tables(image: &[u8], i: Image, st: Style, text: &mut [u8], at: usize) -> usize
-    requires { Located image.now i }
-    ensures { Emitted (tables_text (tables_of image.now) i st) (page at text.old) (page result text.new) }
+fn put_tables(x: &Automaton, st: Style, page: &mut Page<'_>)
+    requires { Located x.now.image.now x.now.trailer }
+    ensures { Written (tables_text (tables x.now) x.now.trailer st) page.old page.new }
 {
-    let a = put_trailer(i, st, text, at);
-    let b = put_said(st, TYPES, 0, 0, 0, 0, text, a);
-    let c = put_table(image, i, st, TYPE_TABLE, text, b);
-    let d = put_said(st, VARIABLES, 0, 0, 0, 0, text, c);
-    let e = put_table(image, i, st, VARIABLE_TABLE, text, d);
-    put_said(st, GATES, i.gates, 0, 0, 0, text, e)
+    put_trailer(x.trailer, st, page);
+    put_said(st, TYPES, 0, 0, 0, 0, page);
+    put_table(x, st, Table::Types, page);
+    put_said(st, VARIABLES, 0, 0, 0, 0, page);
+    put_table(x, st, Table::Variables, page);
+    put_said(st, GATES, x.trailer.gates, 0, 0, 0, page);
 }
 
-fn put_roots(image: &[u8], i: Image, st: Style, text: &mut [u8], at: usize) -> usize
-    requires { Located image.now i }
-    ensures { Emitted (roots_text (tables_of image.now) i st) (page at text.old) (page result text.new) }
+fn put_roots(x: &Automaton, st: Style, page: &mut Page<'_>)
+    requires { Located x.now.image.now x.now.trailer }
+    ensures { Written (roots_text (tables x.now) x.now.trailer st) page.old page.new }
 {
-    let a = put_said(st, STATES, 0, 0, 0, 0, text, at);
-    let b = put_table(image, i, st, STATE_ROW, text, a);
-    let states = (i.rows - i.states) / 2;
-    put_said(st, CONDITION_ROW, i.condition, 0, 0, states, text, b)
+    put_said(st, STATES, 0, 0, 0, 0, page);
+    put_table(x, st, Table::States(STATE_ROW), page);
+    let states = (x.trailer.rows - x.trailer.states) / 2;
+    put_said(st, CONDITION_ROW, x.trailer.condition, 0, 0, states, page);
 }
 
-fn put_raw(image: &[u8], i: Image, st: Style, text: &mut [u8], at: usize) -> usize
-    requires { Located image.now i }
-    ensures { Emitted (raw_text (tables_of image.now) i st) (page at text.old) (page result text.new) }
+fn put_raw(x: &Automaton, st: Style, page: &mut Page<'_>)
+    requires { Located x.now.image.now x.now.trailer }
+    ensures { Written (raw_text (tables x.now) x.now.trailer st) page.old page.new }
 {
-    let a = put_tables(image, i, st, text, at);
-    let b = put_roots(image, i, st, text, a);
-    let c = put_said(st, ROWS, 0, 0, 0, 0, text, b);
-    put_table(image, i, st, ROW_TABLE, text, c)
+    put_tables(x, st, page);
+    put_roots(x, st, page);
+    put_said(st, ROWS, 0, 0, 0, 0, page);
+    put_table(x, st, Table::Rows, page);
 }
 
-pub(crate) fn put_listing(image: &[u8], i: Image, st: Style, text: &mut [u8], at: usize) -> usize
-    requires { Located image.now i }
-    ensures { Emitted (listing_text (tables_of image.now) i st) (page at text.old) (page result text.new) }
+pub(crate) fn put_listing(x: &Automaton, st: Style, page: &mut Page<'_>)
+    requires { Located x.now.image.now x.now.trailer }
+    ensures { Written (listing_text (tables x.now) x.now.trailer st) page.old page.new }
 {
-    let a = put_tables(image, i, st, text, at);
+    put_tables(x, st, page);
     let w = Fields {
         code: 0,
-        a: i.condition,
+        a: x.trailer.condition,
         b: 0,
         c: 0,
     };
-    let b = put_line(image, i, st, CONDITION, w, 0, text, a);
-    put_table(image, i, st, STATE, text, b)
+    put_line(x, st, CONDITION, w, 0, page);
+    put_table(x, st, Table::States(STATE), page);
 }
 
-fn put_member(mask: u64, v: u16, text: &mut [u8], at: usize) -> usize
+fn put_member(mask: u64, v: u16, page: &mut Page<'_>)
     requires { v < 64 }
-    ensures { Emitted (member_text mask v) (page at text.old) (page result text.new) }
+    ensures { Written (member_text mask v) page.old page.new }
 {
     let one = bit(v);
     if inside(one, mask) {
-        let number = emit(text, at, b" V");
-        return emit_number(text, number, v);
+        page.emit(b" V");
+        page.emit_number(v);
     }
-    at
 }
 
-fn put_members(mask: u64, n: u16, text: &mut [u8], at: usize) -> usize
+fn put_members(mask: u64, n: u16, page: &mut Page<'_>)
     requires { n ≤ 64 }
-    ensures { Emitted (each (member_text mask) n) (page at text.old) (page result text.new) }
+    ensures { Written (each (member_text mask) n) page.old page.new }
 {
-    let mut end = at;
-    let mut v = 0;
-    while v < n {
-        end = put_member(mask, v, text, end);
-        v += 1;
+    for v in 0..n {
+        put_member(mask, v, page);
     }
-    end
 }
 
-fn put_set(st: Style, n: u16, sets: &[u64], q: u16, text: &mut [u8], at: usize) -> usize
+fn put_set(st: Style, n: u16, sets: &[u64], q: u16, page: &mut Page<'_>)
     requires { (n ≤ 64) × (q < length sets.now) }
-    ensures { Emitted (set_text st n sets.now q) (page at text.old) (page result text.new) }
+    ensures { Written (set_text st n sets.now q) page.old page.new }
 {
     let mask = sets[q as usize];
-    let a = put_said(st, SET, q, 0, 0, 0, text, at);
-    let b = put_members(mask, n, text, a);
-    put_said(st, SET_END, 0, 0, 0, 0, text, b)
+    put_said(st, SET, q, 0, 0, 0, page);
+    put_members(mask, n, page);
+    put_said(st, SET_END, 0, 0, 0, 0, page);
 }
 
-fn put_sets(st: Style, n: u16, sets: &[u64], states: u16, text: &mut [u8], at: usize) -> usize
+fn put_sets(st: Style, n: u16, sets: &[u64], states: u16, page: &mut Page<'_>)
     requires { (n ≤ 64) × (states ≤ length sets.now) }
-    ensures { Emitted (each (set_text st n sets.now) states) (page at text.old) (page result text.new) }
+    ensures { Written (each (set_text st n sets.now) states) page.old page.new }
 {
-    let mut end = at;
-    let mut q = 0;
-    while q < states {
-        end = put_set(st, n, sets, q, text, end);
-        q += 1;
+    for q in 0..states {
+        put_set(st, n, sets, q, page);
     }
-    end
 }
 
 // An accepted image's sets.
-pub(crate) fn put_accepted(
-    image: &[u8],
-    i: Image,
-    st: Style,
-    sets: &[u64],
-    text: &mut [u8],
-    at: usize,
-) -> usize
-    requires { Located image.now i × (64 ≤ length sets.now) }
-    ensures { Emitted (accepted_text st i sets.now) (page at text.old) (page result text.new) }
+pub(crate) fn put_accepted(x: &Automaton, st: Style, sets: &[u64], page: &mut Page<'_>)
+    requires { Located x.now.image.now x.now.trailer × (64 ≤ length sets.now) }
+    ensures { Written (accepted_text st x.now.trailer sets.now) page.old page.new }
 {
-    let variables = (i.states - i.variables) / 4;
-    let states = (i.rows - i.states) / 2;
-    let a = put_said(st, ACCEPTED, 0, 0, 0, 0, text, at);
-    put_sets(st, variables, sets, states, text, a)
+    let variables = (x.trailer.states - x.trailer.variables) / 4;
+    let states = (x.trailer.rows - x.trailer.states) / 2;
+    put_said(st, ACCEPTED, 0, 0, 0, 0, page);
+    put_sets(st, variables, sets, states, page);
 }
 
-pub fn put_refusal(y: Refusal, st: Style, text: &mut [u8], at: usize) -> usize
-    ensures { Emitted (refusal_text st y) (page at text.old) (page result text.new) }
+pub fn put_refusal(y: Refusal, st: Style, page: &mut Page<'_>)
+    ensures { Written (refusal_text st y) page.old page.new }
 {
     let n = y.number();
     let p = y.place();
-    put_said(st, REFUSED + n as u32, p, n, 0, 0, text, at)
+    put_said(st, REFUSED + n as u32, p, n, 0, 0, page);
 }
 
 fn row_place(n: u16, p: u16) -> u16
@@ -221,22 +195,24 @@ pub fn pointing(n: u16, p: u16, graph: bool) -> Style
 }
 
 // As much of a refused image as is sound to print, by the refusal's number.
-pub(crate) fn put_shown(image: &[u8], st: Style, n: u16, text: &mut [u8], at: usize) -> usize
+pub(crate) fn put_shown(image: &[u8], st: Style, n: u16, page: &mut Page<'_>)
     requires { Shown image.now n }
-    ensures { Emitted (shown_text image.now st n) (page at text.old) (page result text.new) }
+    ensures { Written (shown_text image.now st n) page.old page.new }
 {
     if n < 3 {
-        return put_length(image, st, text, at);
+        return put_length(image, st, page);
     }
-    let i = trailer(image);
+    let x = Automaton {
+        image,
+        trailer: trailer(image),
+    };
     if n < 4 {
-        return put_trailer(i, st, text, at);
+        put_trailer(x.trailer, st, page);
+    } else if n < 5 {
+        put_tables(&x, st, page);
+    } else if n < 8 {
+        put_raw(&x, st, page);
+    } else {
+        put_listing(&x, st, page);
     }
-    if n < 5 {
-        return put_tables(image, i, st, text, at);
-    }
-    if n < 8 {
-        return put_raw(image, i, st, text, at);
-    }
-    put_listing(image, i, st, text, at)
 }

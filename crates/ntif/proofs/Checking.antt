@@ -1,9 +1,11 @@
 -- What the stages' verdict gives check. Assumes nothing.
+use Rattle.std.specs.Prelude.{Ok, Err}
+use Rattle.model.specs.Answers.{Verdict}
 use mathlib.Core.{Path.◌≡◌, Path.refl, Path.sym, Path.ap, Path.◌∙◌, List.List, List.[], List.◌++◌}
 use Prim.Native.Nat.{ℕ, ◌/◌, ◌≤◌, ◌<◌}
 use native.Mathlib.Omega.{arith}
 use lib.{ListN.length, ListN.get_or, ListN.take, ListN.drop, Seq.take_at}
-use Rattle.model.specs.declared.{Image.Image, Verdict.Verdict, Verdict.TheVariants.Accepted, Verdict.TheVariants.Refused, Refusal.Refusal}
+use Rattle.model.specs.declared.{Image.Image, Refusal.Refusal}
 use Rattle.model.specs.Image.{tables_of, trailer_of}
 use Rattle.model.specs.Largest.{sets_of}
 use Rattle.model.specs.Bytes.{words_of, written}
@@ -19,7 +21,7 @@ use Rattle.stages.proofs.Stages.{rooted-of, trailer-there, accepted-tables, acce
 use Rattle.ntif.proofs.Kept.{written-kept, words-length}
 
 -- an image that check accepts with so much room
-module _ (s : List ℕ) (room : ℕ) {v : Verdict} (f : v ≡ check_verdict s room) (e : v ≡ Accepted) where
+module _ (s : List ℕ) (room : ℕ) {v : Verdict} (f : v ≡ check_verdict s room) (e : v ≡ Ok tt) where
   pub accepted-trailer : 16 ≤ length s
   accepted-trailer = trailer-there s refl (accepted-tables s room (sym f ∙ e))
 
@@ -41,18 +43,18 @@ module _ (s : List ℕ) (room : ℕ) {v : Verdict} (f : v ≡ check_verdict s ro
       sets-length (tables_of s) (leads-of r) (parameters-in (tables_of s) r.formed.entries)
 
 -- the sets that the stages leave
-accepted-sets : (s : List ℕ) (room : ℕ) {v : Verdict} (was masks : List ℕ) (n : ℕ) → Checks s room v was masks → v ≡ Accepted
+accepted-sets : (s : List ℕ) (room : ℕ) {v : Verdict} (was masks : List ℕ) (n : ℕ) → Checks s room v was masks → v ≡ Ok tt
     → n ≡ length (tables_of s).states → take n masks ≡ sets_of (tables_of s)
 accepted-sets s room was masks n g e c =
     rw (g.left, accepted-leaves s room (sym g.verdict ∙ e) was) (take_at _ _ n (sets-long s room g.verdict e ∙ sym c))
 
-pub checked_refused : (s sets : List ℕ) {v : Verdict} (y : Refusal) → v ≡ check_verdict s (length sets) → v ≡ Refused y
+pub checked_refused : (s sets : List ℕ) {v : Verdict} (y : Refusal) → v ≡ check_verdict s (length sets) → v ≡ Err y
     → ◌≡◌ {A = Checked} (record { answer = v; sets = sets }) (check s sets)
 unfolding check
 checked_refused s sets y f e = rw (← f, e)
 
 pub checked-accepted : (s sets : List ℕ) {v : Verdict} {was masks after : List ℕ} (n : ℕ) → Checks s (length sets) v was masks
-    → v ≡ Accepted → n ≡ length (tables_of s).states → after ≡ take n masks ++ drop n sets
+    → v ≡ Ok tt → n ≡ length (tables_of s).states → after ≡ take n masks ++ drop n sets
     → ◌≡◌ {A = Checked} (record { answer = v; sets = after }) (check s sets)
 unfolding check
 checked-accepted s sets {v} {was} {masks} n g e c a =
@@ -60,7 +62,7 @@ checked-accepted s sets {v} {was} {masks} n g e c a =
     let l : length (sets_of (tables_of s)) ≡ n = sets-long s (length sets) g.verdict e ∙ sym c in
     rw (← g.verdict, e, a, t, l)
 
-pub pack-refused : {v : Verdict} (y : Refusal) {n : ℕ} → v ≡ Refused y → n ≡ pack_refusal y → n ≡ pack_verdict v
+pub pack-refused : {v : Verdict} (y : Refusal) {n : ℕ} → v ≡ Err y → n ≡ pack_refusal y → n ≡ pack_verdict v
 pack-refused y e f = rw (e, f)
 
 -- check on bytes
@@ -72,13 +74,13 @@ module _ (s sets : List ℕ) (bytes : (j : ℕ) → get_or sets j 0 < 256) where
   unfolding written
   kept = written-kept 8 sets bytes [] (omega arith) (omega arith)
 
-  pub bytes-refused : {v : Verdict} {n : ℕ} (y : Refusal) → v ≡ check_verdict s (length sets / 8) → v ≡ Refused y → n ≡ pack_verdict v
+  pub bytes-refused : {v : Verdict} {n : ℕ} (y : Refusal) → v ≡ check_verdict s (length sets / 8) → v ≡ Err y → n ≡ pack_verdict v
       → ◌≡◌ {A = Exported} (record { answer = n; lent = sets }) (check_bytes s sets)
   unfolding check_bytes
   bytes-refused y f e p = rw (← checked_refused s (words_of 8 sets) y (of_words f) e, p, kept)
 
   pub bytes-accepted : {v : Verdict} {was masks after : List ℕ} {m : ℕ} (n : ℕ) → Checks s (length sets / 8) v was masks
-      → v ≡ Accepted → n ≡ length (tables_of s).states → after ≡ written 8 (take n masks) sets → m ≡ pack_verdict v
+      → v ≡ Ok tt → n ≡ length (tables_of s).states → after ≡ written 8 (take n masks) sets → m ≡ pack_verdict v
       → ◌≡◌ {A = Exported} (record { answer = m; lent = after }) (check_bytes s sets)
   unfolding check_bytes
   bytes-accepted {v} {was} {masks} n g e c a p =

@@ -1,11 +1,12 @@
 -- start on words that are read from bytes, no more of them than can matter. Assumes nothing.
-use mathlib.Core.{Path.◌≡◌, Path.refl, Path.sym, Path.ap, Path.◌∙◌, Bool.Bool, Bool.true, Bool.false, List.List, List.[], List.◌∷◌, List.◌++◌, List.map, List.append-nil}
+use Rattle.std.specs.Prelude.{Ok, Err}
+use mathlib.Core.{Path.◌≡◌, Path.refl, Path.sym, Path.ap, Path.◌∙◌, Bool.Bool, Bool.true, Bool.false, List.List, List.[], List.◌∷◌, List.map}
 use Prim.Native.Nat.{ℕ, zero, suc, ◌+◌, ◌*◌, ◌/◌, ◌^◌, ◌≤◌, ◌<◌, min}
 use native.Mathlib.Omega.{arith}
-use lib.{Dec.eqb, IntN.ℤ, ListN.length, ListN.get_or, ListN.take, ListN.drop, ListN.drop_of_length-le, Seq.take_all, Seq.take-length}
+use lib.{Dec.eqb, IntN.ℤ, ListN.length, ListN.get_or, ListN.take, Seq.take_all}
 use borrow.Author.Tests.{eq-eqb, ne_eqb, eqb-true, eqb-false}
-use Rattle.model.specs.declared.{Verdict.Verdict, Verdict.TheVariants.Accepted, Verdict.TheVariants.Refused, Refusal.Refusal, Refusal.TheVariants.StoreLength, Refusal.TheVariants.ParameterCount}
-use Rattle.model.specs.Answers.{after, unless}
+use Rattle.model.specs.declared.{Refusal.Refusal, Refusal.TheVariants.StoreLength, Refusal.TheVariants.ParameterCount}
+use Rattle.model.specs.Answers.{after, unless, Verdict}
 use Rattle.model.specs.Lists.{table}
 use Rattle.model.specs.Bytes.{number_at, signed, unsigned, words_of, signed_words, written}
 use Rattle.model.specs.Image.{Entry, tables_of}
@@ -32,7 +33,7 @@ parameters-most [] h = omega arith
 parameters-most (e ∷ es) h = omega (arith, h 0 (omega arith), parameters-most es (λ v k. h (suc v) (omega arith)))
 
 -- an image free of 1 to 9
-module _ (s : List ℕ) (e : image_verdict s ≡ Accepted) where
+module _ (s : List ℕ) (e : image_verdict s ≡ Ok tt) where
   few-variables : length (tables_of s).variables ≤ 64
   few-variables = let l = accepted-located refl e in omega (arith, (laid l).variables_most, variables-count l)
 
@@ -54,10 +55,10 @@ unfolding after
 after_test true y v w h = h refl
 after_test false y v w h = refl
 
-pub after_same : (u v w : Verdict) → (u ≡ Accepted → v ≡ w) → after u v ≡ after u w
+pub after_same : (u v w : Verdict) → (u ≡ Ok tt → v ≡ w) → after u v ≡ after u w
 unfolding after
-after_same Accepted v w h = h refl
-after_same (Refused y) v w h = refl
+after_same (Ok _) v w h = h refl
+after_same (Err y) v w h = refl
 
 -- the words that are read
 pub record Read (ps given m slots : List ℤ) : Type 0 where
@@ -69,7 +70,7 @@ module _ (s : List ℕ) {ps given m slots : List ℤ} (r : Read ps given m slots
   whole-given : (n : ℕ) → n ≤ 64 → length ps ≡ n → given ≡ ps
   whole-given n h e = r.first ∙ take_all (length given) ps (omega (arith, r.values))
 
-  counts-capped : image_verdict s ≡ Accepted → counts_verdict (tables_of s) given slots ≡ counts_verdict (tables_of s) ps m
+  counts-capped : image_verdict s ≡ Ok tt → counts_verdict (tables_of s) given slots ≡ counts_verdict (tables_of s) ps m
   unfolding counts_verdict
   counts-capped e =
       let x = tables_of s in
@@ -83,7 +84,7 @@ module _ (s : List ℕ) {ps given m slots : List ℤ} (r : Read ps given m slots
   capped = start_is s given slots refl ∙ after_same (image_verdict s) _ _ counts-capped ∙ sym (start_is s ps m refl)
 
   -- where it is accepted every value was read
-  read_whole : start_verdict s ps m ≡ Accepted → given ≡ ps
+  read_whole : start_verdict s ps m ≡ Ok tt → given ≡ ps
   unfolding counts_verdict
   read_whole e =
       let x = tables_of s in
@@ -94,8 +95,8 @@ module _ (s : List ℕ) {ps given m slots : List ℤ} (r : Read ps given m slots
       whole-given n (few-parameters s a.0) (eqb-true (length ps) n (unless-true _ ParameterCount c.0))
 
 started-answer : (v : Verdict) (m store : List ℤ) → (started_as v m store).answer ≡ v
-started-answer Accepted m store = refl
-started-answer (Refused y) m store = refl
+started-answer (Ok _) m store = refl
+started-answer (Err y) m store = refl
 
 -- what start gave on the words read
 module _ (s : List ℕ) {ps given m slots after : List ℤ} {v : Verdict} (r : Read ps given m slots)
@@ -104,11 +105,11 @@ module _ (s : List ℕ) {ps given m slots after : List ℤ} {v : Verdict} (r : R
   unfolding start
   verdict-is = ap (λ (c : Started). c.answer) f ∙ started-answer (start_verdict s given slots) _ slots ∙ capped s r
 
-  pub words-refused : (y : Refusal) → v ≡ Refused y → ◌≡◌ {A = Started} (record { answer = v; store = m }) (start s ps m)
+  pub words-refused : (y : Refusal) → v ≡ Err y → ◌≡◌ {A = Started} (record { answer = v; store = m }) (start s ps m)
   unfolding start
   words-refused y e = rw (← verdict-is, e)
 
-  pub words-accepted : v ≡ Accepted → ◌≡◌ {A = Started} (record { answer = v; store = after }) (start s ps m)
+  pub words-accepted : v ≡ Ok tt → ◌≡◌ {A = Started} (record { answer = v; store = after }) (start s ps m)
   unfolding start
   words-accepted e =
       let w = read_whole s r (sym verdict-is ∙ e) in
@@ -116,11 +117,11 @@ module _ (s : List ℕ) {ps given m slots after : List ℤ} {v : Verdict} (r : R
       ap (λ (c : Started). c.store) f ∙ ap (λ (u : Verdict). (started_as u (started (tables_of s) given) slots).store) (capped s r ∙ sym verdict-is ∙ e) in
       rw (← verdict-is, e, k, w)
 
-pub read_of : (params store : List ℕ) (was : List ℤ) {given slots : List ℤ} {n : ℕ} → n ≡ length was → length given ≡ length was → length was ≡ min (length params / 4) 65
-    → length slots ≡ min (length store / 4) 65 → given ≡ take n (signed_words params) ++ drop n was → Read (signed_words params) given (signed_words store) slots
-read_of params store was {given} {slots} {n} c k p q e =
+pub read_of : (params store : List ℕ) (was : List ℤ) {given slots : List ℤ} → length given ≡ length was → length was ≡ min (length params / 4) 65
+    → length slots ≡ min (length store / 4) 65 → given ≡ take (length was) (signed_words params) → Read (signed_words params) given (signed_words store) slots
+read_of params store was {given} {slots} k p q e =
     record {
-      first = e ∙ rw (drop_of_length-le was {i = n} (omega arith), append-nil, k, c);
+      first = rw k e;
       values = k ∙ rw (length-signed_words params) p;
       room = rw (length-signed_words store) q;
     }
@@ -140,11 +141,11 @@ module _ (s params store : List ℕ) (bytes : (j : ℕ) → get_or store j 0 < 2
 
   module _ {given slots after : List ℤ} {v : Verdict} {n : ℕ} (r : Read (signed_words params) given (signed_words store) slots)
       (f : ◌≡◌ {A = Started} (record { answer = v; store = after }) (start s given slots)) (p : n ≡ pack_verdict v) where
-    pub start-bytes-refused : (y : Refusal) → v ≡ Refused y → ◌≡◌ {A = Exported} (record { answer = n; lent = store }) (start_bytes s params store)
+    pub start-bytes-refused : (y : Refusal) → v ≡ Err y → ◌≡◌ {A = Exported} (record { answer = n; lent = store }) (start_bytes s params store)
     unfolding start_bytes
     start-bytes-refused y e = rw (← words-refused s r f y e, p, back-kept)
 
-    pub start-bytes-accepted : {lent : List ℕ} (k : ℕ) → v ≡ Accepted → k ≡ length after → lent ≡ written 4 (map (unsigned (2 ^ 31)) (take k after)) store
+    pub start-bytes-accepted : {lent : List ℕ} → v ≡ Ok tt → lent ≡ written 4 (map (unsigned (2 ^ 31)) after) store
         → ◌≡◌ {A = Exported} (record { answer = n; lent = lent }) (start_bytes s params store)
     unfolding start_bytes
-    start-bytes-accepted k e c a = rw (← words-accepted s r f e, p, a, c, take-length)
+    start-bytes-accepted e a = rw (← words-accepted s r f e, p, a)

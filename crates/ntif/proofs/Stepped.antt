@@ -1,11 +1,12 @@
 -- step on words that are read from bytes, no more of them than can matter. Assumes nothing.
+use Rattle.std.specs.Prelude.{Ok, Err}
 use mathlib.Core.{Path.◌≡◌, Path.refl, Path.sym, Path.ap, Path.◌∙◌, Bool.Bool, Bool.true, Bool.false, List.List, List.[], List.◌∷◌, List.◌++◌, List.map, List.append-nil}
 use Prim.Native.Nat.{ℕ, zero, suc, ◌*◌, ◌/◌, ◌^◌, ◌≤◌, ◌<◌, min}
 use native.Mathlib.Omega.{arith}
-use lib.{Dec.eqb, Dec.leb, Dec.ltb, IntN.ℤ, ListN.length, ListN.get_or, ListN.take, ListN.drop, ListN.length-map, ListN.drop_of_length-le, Seq.take_all, Seq.take-length}
+use lib.{Dec.eqb, Dec.leb, Dec.ltb, IntN.ℤ, ListN.length, ListN.get_or, ListN.take, ListN.drop, ListN.length-map, ListN.drop_of_length-le, Seq.take_all}
 use borrow.Author.Tests.{eqb-true, ltb-true, ltb-false, lt-ltb, le-ltb, leb-true, leb-false, le-leb, lt-leb}
-use Rattle.model.specs.declared.{Move.Move, Verdict.TheVariants.Accepted, Refusal.Refusal, Refusal.TheVariants.NoState, Refusal.TheVariants.StoreLength, Stepped.Stepped, Stepped.TheVariants.Moved, Stepped.TheVariants.NotMoved}
-use Rattle.model.specs.Answers.{state, after, unless}
+use Rattle.model.specs.declared.{Move.Move, Refusal.Refusal, Refusal.TheVariants.NoState, Refusal.TheVariants.StoreLength}
+use Rattle.model.specs.Answers.{state, after, unless, Stepped}
 use Rattle.model.specs.Bytes.{number_at, unsigned, words_of, signed_words, written}
 use Rattle.model.specs.Image.{tables_of}
 use Rattle.model.specs.Run.{label_words, Res}
@@ -47,7 +48,7 @@ module _ (s : List ℕ) (q : ℕ) (budget : ℕ) {m slots label ten : List ℤ} 
   whole-store : (n : ℕ) → n ≤ 64 → length m ≡ n → slots ≡ m
   whole-store n h e = r.first ∙ take_all (length slots) m (omega (arith, r.room))
 
-  module _ (e : image_verdict s ≡ Accepted) where
+  module _ (e : image_verdict s ≡ Ok tt) where
     few-variables : length (tables_of s).variables ≤ 64
     few-variables = let l = accepted-located refl e in omega (arith, (laid l).variables_most, variables-count l)
 
@@ -67,7 +68,7 @@ module _ (s : List ℕ) (q : ℕ) (budget : ℕ) {m slots label ten : List ℤ} 
   capped = after_same (image_verdict s) _ _ run-capped
 
   -- where nothing is refused every word was read
-  pub read_whole : step_verdict s (state q) m budget label ≡ Accepted → (slots ≡ m) × (min q 65535 ≡ q) × (10 ≤ length label)
+  pub read_whole : step_verdict s (state q) m budget label ≡ Ok tt → (slots ≡ m) × (min q 65535 ≡ q) × (10 ≤ length label)
   unfolding step_verdict
   read_whole e =
       let x = tables_of s in
@@ -111,11 +112,11 @@ module _ (b : List ℕ) (bytes : (j : ℕ) → get_or b j 0 < 256) where
       ∙ ap (λ (k : ℕ). us ++ drop k (words_of 4 b)) (sym l))
       ∙ written-kept 4 b bytes us (omega arith) (omega (arith, l))
 
-pub read_of : (store label : List ℕ) (was : List ℤ) {slots ten : List ℤ} {n : ℕ} → n ≡ length was → length slots ≡ length was → length was ≡ min (length store / 4) 65
-    → length ten ≡ min (length label / 4) 10 → slots ≡ take n (signed_words store) ++ drop n was → Read (signed_words store) slots (signed_words label) ten
-read_of store label was {slots} {ten} {n} c k p q e =
+pub read_of : (store label : List ℕ) (was : List ℤ) {slots ten : List ℤ} → length slots ≡ length was → length was ≡ min (length store / 4) 65
+    → length ten ≡ min (length label / 4) 10 → slots ≡ take (length was) (signed_words store) → Read (signed_words store) slots (signed_words label) ten
+read_of store label was {slots} {ten} k p q e =
     record {
-      first = e ∙ rw (drop_of_length-le was {i = n} (omega arith), append-nil, k, c);
+      first = rw k e;
       room = k ∙ rw (length-signed_words store) p;
       say = rw (length-signed_words label) q;
     }
@@ -129,21 +130,21 @@ module _ (s : List ℕ) (q : ℕ) (store script : List ℕ) (budget : ℕ) (labe
       sym (same_answer s (state q) (state (min q 65535)) (signed_words store) slots script budget (signed_words label) ten (capped s q budget r)
       (λ e. let w = read_whole s q budget r e in (w.0, ap state w.1))) ∙ ap (λ (d : StepDone). d.answer) (sym f)
 
-  pub bytes-refused : {n : ℕ} (y : Refusal) → done ≡ NotMoved y → n ≡ pack_refusal y
+  pub bytes-refused : {n : ℕ} (y : Refusal) → done ≡ Err y → n ≡ pack_refusal y
       → ◌≡◌ {A = ExportedStep} (record { answer = n; store = store; label = label }) (step_bytes s q store script budget label)
   unfolding step_bytes
   bytes-refused y e p =
       rw (not-moved s (state q) (signed_words store) script budget (signed_words label) y (answer-is ∙ e), p, back-kept store sb, back-kept label lb)
 
-  pub words-few : AreBytes s → (k : Move) → done ≡ Moved k → k.words < 2 ^ 23
+  pub words-few : AreBytes s → (k : Move) → done ≡ Ok k → k.words < 2 ^ 23
   words-few b k e = moved-words s (state q) (signed_words store) script budget (signed_words label) b k (answer-is ∙ e)
 
-  pub bytes-moved : {a : ℕ} {store' label' : List ℕ} (n t : ℕ) (k : Move) → done ≡ Moved k → n ≡ length slots' → t ≡ length ten' → length ten' ≡ length ten
-      → store' ≡ written 4 (map (unsigned (2 ^ 31)) (take n slots')) store → label' ≡ written 4 (map (unsigned (2 ^ 31)) (take t ten')) label
-      → a ≡ pack_stepped (Moved k)
+  pub bytes-moved : {a : ℕ} {store' label' : List ℕ} (k : Move) → done ≡ Ok k → length ten' ≡ length ten
+      → store' ≡ written 4 (map (unsigned (2 ^ 31)) slots') store → label' ≡ written 4 (map (unsigned (2 ^ 31)) ten') label
+      → a ≡ pack_stepped (Ok k)
       → ◌≡◌ {A = ExportedStep} (record { answer = a; store = store'; label = label' }) (step_bytes s q store script budget label)
   unfolding step_bytes
-  bytes-moved n t k e c d l g h p =
+  bytes-moved k e l g h p =
       let m = moves s (state q) (signed_words store) script budget (signed_words label) k (answer-is ∙ e) in
       let w = read_whole s q budget r m.passed in
       let y = moves s (state (min q 65535)) slots script budget ten k (ap (λ (z : StepDone). z.answer) (sym f) ∙ e) in
@@ -157,4 +158,4 @@ module _ (s : List ℕ) (q : ℕ) (store script : List ℕ) (budget : ℕ) (labe
       let b : written_back (step s (state q) (signed_words store) script budget (signed_words label)).label label ≡ written 4 (map (unsigned (2 ^ 31)) ten') label =
       ap (λ (v : List ℤ). written_back v label) (m.move.says ∙ ap (λ (v : List ℤ). v ++ drop 10 (signed_words label)) (sym j))
       ∙ back-first label lb ten' 10 (l ∙ full) (omega (arith, w.2, length-signed_words label)) in
-      rw (answer-is ∙ e, p, g, h, c, d, take-length slots', take-length ten', ← z, b)
+      rw (answer-is ∙ e, p, g, h, ← z, b)

@@ -1,17 +1,8 @@
 // Numbers of 32 bits in text, as programs are given them.
 #![tactic(auto)]
 
-ghost use Rattle.std.specs.Prelude.{◌≡◌, true, ◌≤◌, length, drop, pos, neg_ℤ};
+ghost use Rattle.std.specs.Prelude.{◌≡◌, true};
 ghost use Rattle.numerals.specs.Numerals.{is_digit, further, saying, fits, word_in};
-
-use values::round;
-
-// What digits say, or that they aren't digits alone.
-#[derive(Clone, Copy)]
-pub enum Said {
-    Is(u32),
-    Nothing,
-}
 
 // A number, the two dashes that end a list of numbers, or neither.
 #[derive(Clone, Copy)]
@@ -22,21 +13,7 @@ pub enum Word {
 }
 
 // 2^31 is the size of the least number; whatever is above it counts as one more.
-const LEAST: u32 = 2147483648;
-
 const OVER: u32 = 2147483649;
-
-fn wide(b: u8) -> u32
-    ensures { result ≡ b }
-{
-    b as u32
-}
-
-fn is_digit(b: u8) -> bool
-    ensures { result ≡ is_digit b }
-{
-    b'0' <= b && b <= b'9'
-}
 
 // One digit more.
 fn append(n: u32, b: u8) -> u32
@@ -46,56 +23,34 @@ fn append(n: u32, b: u8) -> u32
     if 214748364 < n {
         return OVER;
     }
-    n * 10 + wide(b - b'0')
+    n * 10 + u32::from(b - b'0')
 }
 
-// What the digits from a place on say.
-fn digits(text: &[u8], from: usize) -> Said
-    requires { from ≤ length text.now }
-    ensures { result ≡ saying 0 (drop from text.now) }
+// What digits say, or none where they aren't digits alone.
+fn digits(text: &[u8]) -> Option<u32>
+    ensures { result ≡ saying 0 text.now }
 {
     let mut n: u32 = 0;
-    let mut i = from;
-    while i < text.len() {
-        let b = text[i];
-        if !is_digit(b) {
-            return Said::Nothing;
+    for b in text {
+        if !b.is_ascii_digit() {
+            return None;
         }
-        n = append(n, b);
-        i += 1;
+        n = append(n, *b);
     }
-    Said::Is(n)
-}
-
-// The negative of a size.
-fn negative(n: u32) -> i32
-    requires { n ≤ 2147483648 }
-    ensures { result ≡ neg_ℤ (pos n) }
-{
-    if n == 0 {
-        return 0;
-    }
-    round(LEAST, false, n - 1)
+    Some(n)
 }
 
 // A number of 32 bits by its size and its sign.
-fn number(said: Said, minus: bool) -> Word
+fn number(said: Option<u32>, minus: bool) -> Word
     ensures { result ≡ fits minus said }
 {
-    match said {
-        Said::Nothing => Word::Neither,
-        Said::Is(n) => {
-            if minus {
-                if LEAST < n {
-                    return Word::Neither;
-                }
-                return Word::Number(negative(n));
-            }
-            if LEAST <= n {
-                return Word::Neither;
-            }
-            Word::Number(round(LEAST, true, n))
-        }
+    let Some(n) = said else {
+        return Word::Neither;
+    };
+    let z = if minus { -i64::from(n) } else { i64::from(n) };
+    match i32::try_from(z) {
+        Ok(z) => Word::Number(z),
+        Err(_) => Word::Neither,
     }
 }
 
@@ -103,21 +58,17 @@ fn number(said: Said, minus: bool) -> Word
 pub fn read(text: &[u8]) -> Word
     ensures { result ≡ word_in text.now }
 {
-    let n = text.len();
-    if n == 0 {
+    let Some((first, rest)) = text.split_first() else {
+        return Word::Neither;
+    };
+    if *first != b'-' {
+        return number(digits(text), false);
+    }
+    if rest.is_empty() {
         return Word::Neither;
     }
-    if text[0] != b'-' {
-        return number(digits(text, 0), false);
-    }
-    if n == 1 {
-        return Word::Neither;
-    }
-    if n != 2 {
-        return number(digits(text, 1), true);
-    }
-    if text[1] == b'-' {
+    if rest == b"-".as_slice() {
         return Word::Dashes;
     }
-    number(digits(text, 1), true)
+    number(digits(rest), true)
 }

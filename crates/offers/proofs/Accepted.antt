@@ -1,9 +1,10 @@
 -- The ways of one offer: an emission by its value, a receipt by its word and its match. Assumes nothing.
+use Rattle.std.specs.Prelude.{Option, Some, None}
 use mathlib.Core.{Path.◌≡◌, Path.refl, Path.sym, Path.ap, Path.◌∙◌, Path.subst, Bool.true, List.List}
 use Prim.Native.Nat.{ℕ, ◌+◌, ◌<◌}
 use native.Mathlib.Omega.{arith}
 use lib.{IntN.ℤ, ListN.length}
-use Rattle.model.specs.declared.{Image.Image, Fields.Fields, Value.Value, Value.TheVariants.Is, Value.TheVariants.Unknown, Refusal.TheVariants.Blocked, Refusal.TheVariants.Undefined, Refusal.TheVariants.ScriptEnded, Refusal.TheVariants.WordOutOfRange}
+use Rattle.model.specs.declared.{Image.Image, Fields.Fields, Refusal.TheVariants.Blocked, Refusal.TheVariants.Undefined, Refusal.TheVariants.ScriptEnded, Refusal.TheVariants.WordOutOfRange, Tested.Tested, Tested.TheVariants.Holds, Tested.TheVariants.Fails, Tested.TheVariants.Unsure}
 use Rattle.model.specs.Answers.{row}
 use Rattle.model.specs.Values.{of_size}
 use Rattle.model.specs.Image.{Tables, tables_of, size_of}
@@ -22,23 +23,21 @@ use Rattle.values.proofs.Held.{held, held-is}
 use Rattle.typing.specs.Rules.{OfKind}
 use Rattle.expressions.specs.Ready.{Runs}
 use Rattle.expressions.proofs.Ways.{located, all, forms, value-small, local-is}
-use Rattle.patterns.specs.declared.{Match.Match, Match.TheVariants.Matched, Match.TheVariants.Failed}
-use Rattle.patterns.specs.declared.Match.TheVariants as says
 use Rattle.patterns.specs.Matching.{Tries, Matching, matching, matching_of, matches}
 use Rattle.actions.specs.declared.{Word.Word, Word.TheVariants.Read, Word.TheVariants.Ended, Word.TheVariants.OutOfRange}
 use Rattle.actions.specs.Words.{word_of}
 use Rattle.actions.proofs.Drawing.{read_fits}
-use Rattle.offers.specs.declared.{Offered.Offered, Offered.TheVariants.Gave, Offered.TheVariants.Refused}
-use Rattle.offers.specs.Accepting.{Given, given, offer_by, emits, match_gives, word_gives, receives, accepts}
+use Rattle.offers.specs.declared.{Offered.Offered}
+use Rattle.offers.specs.Accepting.{Given, given, offer_by, emits, match_gives, word_gives, receives, accepts, gave, refused}
 use Rattle.offers.specs.Asks.{Receives, Accepts}
 
 -- an emission
-module _ {s : List ℕ} {rows e : ℕ} {m : List ℤ} (h : Runs expression s rows e m) {v : Value} (q : v ≡ eval (tables_of s) (expression_at (tables_of s) e) m) (r n : ℕ) where
-  pub emits-value : {z : ℤ} → v ≡ Is z → Gave (held z) n ≡ emits (eval (tables_of s) (expression_at (tables_of s) e) m) r n
-  emits-value f = ap (λ (a : ℤ). Gave a n) (local-is h q f) ∙ sym (ap (λ (y : Value). emits y r n) (sym q ∙ f))
+module _ {s : List ℕ} {rows e : ℕ} {m : List ℤ} (h : Runs expression s rows e m) {v : Option ℤ} (q : v ≡ eval (tables_of s) (expression_at (tables_of s) e) m) (r n : ℕ) where
+  pub emits-value : {z : ℤ} → v ≡ Some z → gave (held z) n ≡ emits (eval (tables_of s) (expression_at (tables_of s) e) m) r n
+  emits-value f = ap (λ (a : ℤ). gave a n) (local-is h q f) ∙ sym (ap (λ (y : Option ℤ). emits y r n) (sym q ∙ f))
 
-  pub emits-unknown : v ≡ Unknown → Refused (Undefined (row r)) n ≡ emits (eval (tables_of s) (expression_at (tables_of s) e) m) r n
-  emits-unknown f = sym (ap (λ (y : Value). emits y r n) (sym q ∙ f))
+  pub emits-unknown : v ≡ None → refused (Undefined (row r)) n ≡ emits (eval (tables_of s) (expression_at (tables_of s) e) m) r n
+  emits-unknown f = sym (ap (λ (y : Option ℤ). emits y r n) (sym q ∙ f))
 
 -- a pattern's type is one of the image's
 type-below : (x : Tables) → Whole x → (p : Pat) → GoodPat x p → type_of_pat x p < length x.sizes
@@ -49,21 +48,21 @@ type-below x w (equals t z) g = g.type
 type-below x w (guarded p e) g = type-below x w p g.1
 
 -- what a receipt gives by its match
-module _ (r n : ℕ) (m k : List ℤ) (z : ℤ) (a : Match) where
-  when-matched : (y : run.Match) → matching a k ≡ matching_of y m → a ≡ Matched → given (Gave z n) k ≡ match_gives r m n z y
-  when-matched (matched l) e f = ap (λ (b : Matching). given (Gave z n) b.store) e
+module _ (r n : ℕ) (m k : List ℤ) (z : ℤ) (a : Tested) where
+  when-matched : (y : run.Match) → matching a k ≡ matching_of y m → a ≡ Holds → given (gave z n) k ≡ match_gives r m n z y
+  when-matched (matched l) e f = ap (λ (b : Matching). given (gave z n) b.store) e
   when-matched failed e f = let d = ap (λ (b : Matching). b.said) e in let t : ◌≡◌ {A = ℕ} 0 1 = cc in absurd (omega arith)
   when-matched unsure e f = let d = ap (λ (b : Matching). b.said) e in let t : ◌≡◌ {A = ℕ} 0 1 = cc in absurd (omega arith)
 
-  when-failed : (y : run.Match) → matching a k ≡ matching_of y m → a ≡ Failed → given (Refused (Blocked (row r)) n) k ≡ match_gives r m n z y
+  when-failed : (y : run.Match) → matching a k ≡ matching_of y m → a ≡ Fails → given (refused (Blocked (row r)) n) k ≡ match_gives r m n z y
   when-failed (matched l) e f = let d = ap (λ (b : Matching). b.said) e in let t : ◌≡◌ {A = ℕ} 0 1 = cc in absurd (omega arith)
-  when-failed failed e f = ap (λ (b : Matching). given (Refused (Blocked (row r)) n) b.store) e
+  when-failed failed e f = ap (λ (b : Matching). given (refused (Blocked (row r)) n) b.store) e
   when-failed unsure e f = let d = ap (λ (b : Matching). b.said) e in let t : ◌≡◌ {A = ℕ} 0 1 = cc in absurd (omega arith)
 
-  when-unsure : (y : run.Match) → matching a k ≡ matching_of y m → a ≡ says.Unsure → given (Refused (Undefined (row r)) n) k ≡ match_gives r m n z y
+  when-unsure : (y : run.Match) → matching a k ≡ matching_of y m → a ≡ Unsure → given (refused (Undefined (row r)) n) k ≡ match_gives r m n z y
   when-unsure (matched l) e f = let d = ap (λ (b : Matching). b.said) e in let t : ◌≡◌ {A = ℕ} 0 1 = cc in absurd (omega arith)
   when-unsure failed e f = let d = ap (λ (b : Matching). b.said) e in let t : ◌≡◌ {A = ℕ} 0 1 = cc in absurd (omega arith)
-  when-unsure unsure e f = ap (λ (b : Matching). given (Refused (Undefined (row r)) n) b.store) e
+  when-unsure unsure e f = ap (λ (b : Matching). given (refused (Undefined (row r)) n) b.store) e
 
 -- a receipt
 module _ {s : List ℕ} {i : Image} {p : ℕ} {m : List ℤ} (h : Receives s i p m) where
@@ -90,10 +89,10 @@ module _ {s : List ℕ} {i : Image} {p : ℕ} {m : List ℤ} (h : Receives s i p
     unfolding receives
     receives-by a f = ap (word_gives (tables_of s) (pattern_at (tables_of s) p) r m words) (sym f ∙ q ∙ ap (λ (k : ℕ). word_of k script words) size_is)
 
-    pub receives-ended : y ≡ Ended → given (Refused (ScriptEnded (row r)) words) m ≡ receives (tables_of s) (pattern_at (tables_of s) p) script r m words
+    pub receives-ended : y ≡ Ended → given (refused (ScriptEnded (row r)) words) m ≡ receives (tables_of s) (pattern_at (tables_of s) p) script r m words
     receives-ended f = receives-by Ended f
 
-    pub receives-out : y ≡ OutOfRange → given (Refused (WordOutOfRange (row r)) (words + 1)) m ≡ receives (tables_of s) (pattern_at (tables_of s) p) script r m words
+    pub receives-out : y ≡ OutOfRange → given (refused (WordOutOfRange (row r)) (words + 1)) m ≡ receives (tables_of s) (pattern_at (tables_of s) p) script r m words
     receives-out f = receives-by OutOfRange f
 
     module _ {z : ℤ} (f : y ≡ Read z) where
@@ -106,17 +105,17 @@ module _ {s : List ℕ} {i : Image} {p : ℕ} {m : List ℤ} (h : Receives s i p
       pub tries : Tries s i.rows p (held z) m
       tries = record { runs = h.runs; typed = rw word-local word_typed }
 
-      module _ {a : Match} {k : List ℤ} (d : matching a k ≡ matches (tables_of s) (pattern_at (tables_of s) p) (held z) m) where
+      module _ {a : Tested} {k : List ℤ} (d : matching a k ≡ matches (tables_of s) (pattern_at (tables_of s) p) (held z) m) where
         match-as : matching a k ≡ matches (tables_of s) (pattern_at (tables_of s) p) z m
         match-as = rw word-local at d
 
-        pub receives-matched : a ≡ Matched → given (Gave (held z) (words + 1)) k ≡ receives (tables_of s) (pattern_at (tables_of s) p) script r m words
+        pub receives-matched : a ≡ Holds → given (gave (held z) (words + 1)) k ≡ receives (tables_of s) (pattern_at (tables_of s) p) script r m words
         receives-matched b = rw word-local (when-matched r (words + 1) m k z a (match (tables_of s) (pattern_at (tables_of s) p) z m) match-as b ∙ receives-by (Read z) f)
 
-        pub receives-failed : a ≡ Failed → given (Refused (Blocked (row r)) (words + 1)) k ≡ receives (tables_of s) (pattern_at (tables_of s) p) script r m words
+        pub receives-failed : a ≡ Fails → given (refused (Blocked (row r)) (words + 1)) k ≡ receives (tables_of s) (pattern_at (tables_of s) p) script r m words
         receives-failed b = when-failed r (words + 1) m k z a (match (tables_of s) (pattern_at (tables_of s) p) z m) match-as b ∙ receives-by (Read z) f
 
-        pub receives-unsure : a ≡ says.Unsure → given (Refused (Undefined (row r)) (words + 1)) k ≡ receives (tables_of s) (pattern_at (tables_of s) p) script r m words
+        pub receives-unsure : a ≡ Unsure → given (refused (Undefined (row r)) (words + 1)) k ≡ receives (tables_of s) (pattern_at (tables_of s) p) script r m words
         receives-unsure b = when-unsure r (words + 1) m k z a (match (tables_of s) (pattern_at (tables_of s) p) z m) match-as b ∙ receives-by (Read z) f
 
 -- one offer, by its code

@@ -1,9 +1,10 @@
 -- The ways of a list of offers, one after another, and of a communication. Assumes nothing.
+use Rattle.std.specs.Prelude.{Option, Some, None, Result, Ok, Err}
 use mathlib.Core.{Path.◌≡◌, Path.refl, Path.sym, Path.ap, Path.◌∙◌, Path.subst, Logic.inl, Logic.inr, Logic.⊎_elim, Bool.Bool, Bool.true, Bool.false, Bool.cond, List.List, List.[], List.◌∷◌, List.◌++◌, List.map}
 use Prim.Native.Nat.{ℕ, ◌+◌, ◌%◌, ◌≤◌, ◌<◌}
 use native.Mathlib.{Numerals.add-one, Omega.arith}
 use lib.{IntN.ℤ, ListN.length, ListN.take, ListN.set, ListN.length-set, Seq.take-suc-set, Signed.mag}
-use Rattle.model.specs.declared.{Image.Image, Fields.Fields, Gate.Gate, Value.Value, Value.TheVariants.Is, Value.TheVariants.Unknown, Refusal.Refusal, Refusal.TheVariants.Undefined, Refusal.TheVariants.SecondCommunication, Outcome.TheVariants.Ends, Outcome.TheVariants.Stops}
+use Rattle.model.specs.declared.{Image.Image, Fields.Fields, Gate.Gate, Refusal.Refusal, Refusal.TheVariants.Undefined, Refusal.TheVariants.SecondCommunication, Outcome.TheVariants.Ends, Outcome.TheVariants.Stops}
 use Rattle.model.specs.Answers.{row, gate}
 use Rattle.model.specs.Values.{half16, of_size}
 use Rattle.model.specs.Image.{Tables, none, tables_of, fields_of, size_of}
@@ -27,8 +28,8 @@ use Rattle.actions.specs.Words.{word_of}
 use Rattle.actions.proofs.Listed.{here-row, next-items}
 use Rattle.actions.proofs.Reading.{read_as, reading_of-by}
 use Rattle.actions.proofs.Drawing.{read_fits}
-use Rattle.offers.specs.declared.{Offered.Offered, Offered.TheVariants.Gave, Offered.TheVariants.Refused}
-use Rattle.offers.specs.Accepting.{Given, given, offer_by, emits, match_gives, word_gives, receives, accepts}
+use Rattle.offers.specs.declared.{Offered.Offered}
+use Rattle.offers.specs.Accepting.{Given, given, offer_by, emits, match_gives, word_gives, receives, accepts, gave}
 use Rattle.offers.specs.Asks.{Accepts, AcceptsAll, Communicates}
 use Rattle.offers.proofs.Accepted.{offer-good}
 
@@ -41,7 +42,7 @@ quiet_is run e m values n = rw e
 
 -- what comes after an offer
 abbrev after : Given → Run → (ℤ → St → Res) → Res
-after a run k = elim a.got [ Gave z n ↦ k z (quiet run a.store n) | Refused y n ↦ gives (Stops y) (quiet run a.store n) ]
+after a run k = elim a.got.value [ Ok z ↦ k z (quiet run a.store a.got.words) | Err y ↦ gives (Stops y) (quiet run a.store a.got.words) ]
 
 -- one offer, and then the others
 module _ (x : Tables) (g : Gate) (os : List Offer) (vs : List ℤ) (script : List ℕ) (r : ℕ) (run : Run) (m : List ℤ) (n : ℕ) where
@@ -51,10 +52,10 @@ module _ (x : Tables) (g : Gate) (os : List Offer) (vs : List ℤ) (script : Lis
   received : Pat → ℤ → St → Res
   received p z u = elim (match x p z u.store) [ matched k ↦ rest z (stored k u) | failed ↦ blocked r u | unsure ↦ gives (Stops (Undefined (row r))) u ]
 
-  emitted-by : (y : Value) → valued y r (quiet run m n) (λ z. rest z (quiet run m n)) ≡ after (given (emits y r n) m) run rest
+  emitted-by : (y : Option ℤ) → valued y r (quiet run m n) (λ z. rest z (quiet run m n)) ≡ after (given (emits y r n) m) run rest
   unfolding valued
-  emitted-by (Is z) = refl
-  emitted-by Unknown = refl
+  emitted-by (Some z) = refl
+  emitted-by None = refl
 
   received-by : (p : Pat) (y : Word) → read_as y r (quiet run m n) (received p) ≡ after (word_gives x p r m n y) run rest
   unfolding received blocked_at
@@ -94,26 +95,26 @@ module _ (x : Tables) (w : Whole x) (m : List ℤ) (t : TypedStore x m) (r : ℕ
       go Ended e = t
       go OutOfRange e = t
 
-  match-gives : (n k : ℕ) (z a : ℤ) (y : Match) → (match_gives r m n z y).got ≡ Gave a k → z ≡ a
-  match-gives n k z a (matched l) e = cc
-  match-gives n k z a failed e = let f : ◌≡◌ {A = ℕ} 0 1 = cc in absurd (omega arith)
-  match-gives n k z a unsure e = let f : ◌≡◌ {A = ℕ} 0 1 = cc in absurd (omega arith)
+  match-gives : (n k : ℕ) (z a : ℤ) (y : Match) → (match_gives r m n z y).got ≡ gave a k → z ≡ a
+  match-gives n k z a (matched l) e = let v = ap (λ (o : Offered). o.value) e in cc
+  match-gives n k z a failed e = let v = ap (λ (o : Offered). o.value) e in let f : ◌≡◌ {A = ℕ} 0 1 = cc in absurd (omega arith)
+  match-gives n k z a unsure e = let v = ap (λ (o : Offered). o.value) e in let f : ◌≡◌ {A = ℕ} 0 1 = cc in absurd (omega arith)
 
-  accepts-small : (o : Offer) → GoodOffer x o → (script : List ℕ) (n k : ℕ) (a : ℤ) → (accepts x o script r m n).got ≡ Gave a k → mag a < 32768
+  accepts-small : (o : Offer) → GoodOffer x o → (script : List ℕ) (n k : ℕ) (a : ℤ) → (accepts x o script r m n).got ≡ gave a k → mag a < 32768
   unfolding accepts receives
   accepts-small (emit e) g script n k a q = go (eval x e m) refl q
     where
-      go : (y : Value) → eval x e m ≡ y → emits y r n ≡ Gave a k → mag a < 32768
-      go (Is z) f h = let b : z ≡ a = cc in value-small w _ a (eval-typed x w e m a g t (f ∙ ap Is b))
-      go Unknown f h = let b : ◌≡◌ {A = ℕ} 0 1 = cc in absurd (omega arith)
+      go : (y : Option ℤ) → eval x e m ≡ y → emits y r n ≡ gave a k → mag a < 32768
+      go (Some z) f h = let v = ap (λ (o : Offered). o.value) h in let b : z ≡ a = cc in value-small w _ a (eval-typed x w e m a g t (f ∙ ap Some b))
+      go None f h = let v = ap (λ (o : Offered). o.value) h in let b : ◌≡◌ {A = ℕ} 0 1 = cc in absurd (omega arith)
   accepts-small (receive p) g script n k a q = go (word_of (size_of x (type_of_pat x p)) script n) refl q
     where
-      go : (y : Word) → word_of (size_of x (type_of_pat x p)) script n ≡ y → (word_gives x p r m n y).got ≡ Gave a k → mag a < 32768
+      go : (y : Word) → word_of (size_of x (type_of_pat x p)) script n ≡ y → (word_gives x p r m n y).got ≡ gave a k → mag a < 32768
       go (Read z) f h =
           let b = match-gives (n + 1) k z a (match x p z m) h in
           value-small w (type_of_pat x p) a (word_in (size_of x (type_of_pat x p)) script n (f ∙ ap Read b))
-      go Ended f h = let b : ◌≡◌ {A = ℕ} 0 1 = cc in absurd (omega arith)
-      go OutOfRange f h = let b : ◌≡◌ {A = ℕ} 0 1 = cc in absurd (omega arith)
+      go Ended f h = let v = ap (λ (o : Offered). o.value) h in let b : ◌≡◌ {A = ℕ} 0 1 = cc in absurd (omega arith)
+      go OutOfRange f h = let v = ap (λ (o : Offered). o.value) h in let b : ◌≡◌ {A = ℕ} 0 1 = cc in absurd (omega arith)
 
 -- the offers from row r on, after so many words and values; n and vs are the store and the values then
 pub record Along (s : List ℕ) (i : Image) (w : Fields) (place : ℕ) (script : List ℕ) (run : Run) (m values n vs : List ℤ) (words count r : ℕ) : Type 0 where
@@ -178,18 +179,21 @@ module _ {s : List ℕ} {i : Image} {w : Fields} {m values : List ℤ} {run : Ru
             ∙ sym (ap (λ l. offering x g l (take count vs) script place (quiet run n words)) offers-step)
             ∙ d.same
 
-        pub along-refused : {z : Refusal} {q : ℕ} → y ≡ Refused z q → gives (Stops z) (state_of (run_at run q) k vs)
+        pub along-refused : {z : Refusal} → y.value ≡ Err z → gives (Stops z) (state_of (run_at run y.words) k vs)
             ≡ offering (tables_of s) (gate w.a) (offers_at (tables_of s) w.b) [] script place (state_of run m values)
-        along-refused {z} {q} b = ap (gives (Stops z)) (quiet_is run h.quiet k vs q) ∙ sym (ap (λ (b : Offered). after (given b k) run (rest (tables_of s) (gate w.a) (offers_at (tables_of s) o.b) (take count vs) script place run n words)) b) ∙ by_one
+        along-refused {z} e =
+            let b = ap (λ (v : Result ℤ Refusal). record { value = v; words = y.words }) e in
+            ap (gives (Stops z)) (quiet_is run h.quiet k vs y.words) ∙ sym (ap (λ (b : Offered). after (given b k) run (rest (tables_of s) (gate w.a) (offers_at (tables_of s) o.b) (take count vs) script place run n words)) b) ∙ by_one
 
         typed-after : TypedStore (tables_of s) k
         typed-after = subst (TypedStore (tables_of s)) (sym (ap (λ (b : Given). b.store) a)) (accepts-typed (tables_of s) (all d.items.ready) n d.items.ready.store place (offer_by (tables_of s) o) (offer-good asks) script words)
 
-        pub along-step : {z : ℤ} {q : ℕ} → y ≡ Gave z q → Along s i w place script run m values k (set vs count (held z)) q (count + 1) o.b
+        pub along-step : {z : ℤ} → y.value ≡ Ok z → Along s i w place script run m values k (set vs count (held z)) y.words (count + 1) o.b
         unfolding rest
-        along-step {z} {q} b =
+        along-step {z} e =
+            let b = ap (λ (v : Result ℤ Refusal). record { value = v; words = y.words }) e in
             let x = tables_of s in
-            let t = accepts-small x (all d.items.ready) n d.items.ready.store place (offer_by x o) (offer-good asks) script words q z (ap (λ (b : Given). b.got) (sym a) ∙ b) in
+            let t = accepts-small x (all d.items.ready) n d.items.ready.store place (offer_by x o) (offer-good asks) script words y.words z (ap (λ (b : Given). b.got) (sym a) ∙ b) in
             let l : held z ≡ z = held-is z (omega arith) in
             let c = count-in in
             record {

@@ -2,6 +2,7 @@
 #![tactic(auto)]
 
 ghost use mathlib.Core.{Path.◌≡◌, List.[]};
+ghost use Rattle.image.specs.Located.{tables};
 ghost use Rattle.model.specs.Answers.{gate};
 ghost use Rattle.model.specs.Image.{tables_of};
 ghost use Rattle.model.specs.Rows.{expression};
@@ -9,14 +10,14 @@ ghost use Rattle.model.specs.Decode.{expression_at, pattern_at, offers_at};
 ghost use Rattle.model.specs.Run.{eval, offering, communicating};
 ghost use Rattle.expressions.specs.Ready.{Runs};
 ghost use Rattle.actions.specs.State.{state_of, result_of};
-ghost use Rattle.offers.specs.Accepting.{given, offer_by, emits, receives, accepts};
+ghost use Rattle.offers.specs.Accepting.{given, gave, refused, offer_by, emits, receives, accepts};
 ghost use Rattle.offers.specs.Asks.{Receives, Accepts, AcceptsAll, Communicates};
 
-use actions::{Ran, Run, Word, at_word, read_word};
+use actions::{Ran, Run, Word, read_word};
 use expressions::{eval, row};
-use image::size;
-use model::{Fields, Image, Outcome, Refusal, Row, Value};
-use patterns::{Match, matches};
+use image::Automaton;
+use model::{Fields, Image, Outcome, Refusal, Row, Tested};
+use patterns::matches;
 use typing::type_of_pattern;
 
 // The code of an emission.
@@ -24,9 +25,29 @@ const EMIT: u16 = 40;
 
 // What an offer gives, and the words read then.
 #[derive(Clone, Copy)]
-pub enum Offered {
-    Gave(i32, usize),
-    Refused(Refusal, usize),
+pub struct Offered {
+    pub value: Result<i32, Refusal>,
+    pub words: usize,
+}
+
+impl Offered {
+    fn gave(z: i32, words: usize) -> Offered
+        ensures { result ≡ gave z words }
+    {
+        Offered {
+            value: Ok(z),
+            words,
+        }
+    }
+
+    fn refused(y: Refusal, words: usize) -> Offered
+        ensures { result ≡ refused y words }
+    {
+        Offered {
+            value: Err(y),
+            words,
+        }
+    }
 }
 
 // An emission: the value of its expression.
@@ -35,59 +56,56 @@ fn emit(image: &[u8], rows: u16, place: u16, e: u16, store: &[i32], words: usize
     ensures { result ≡ emits (eval (tables_of image.now) (expression_at (tables_of image.now) e) store.now) place words }
 {
     match eval(image, rows, e, store) {
-        Value::Is(z) => Offered::Gave(z, words),
-        Value::Unknown => Offered::Refused(Refusal::Undefined(Row(place)), words),
+        Some(z) => Offered::gave(z, words),
+        None => Offered::refused(Refusal::Undefined(Row(place)), words),
     }
 }
 
 // A receipt: a word of its pattern's type, which has to match. Nothing has been said, so that a failure is 21.
 fn receive(
-    image: &[u8],
-    i: Image,
+    x: &Automaton,
     place: u16,
     p: u16,
     store: &mut [i32],
     script: &[u8],
     words: usize,
 ) -> Offered
-    requires { Receives image.now i p store.old }
-    ensures { given result store.new ≡ receives (tables_of image.now) (pattern_at (tables_of image.now) p) script.now place store.old words }
+    requires { Receives x.now.image.now x.now.trailer p store.old }
+    ensures { given result store.new ≡ receives (tables x.now) (pattern_at (tables x.now) p) script.now place store.old words }
 {
-    let n = size(image, i, type_of_pattern(image, i, p));
+    let n = x.size(type_of_pattern(x, p));
     match read_word(script, words, n) {
-        Word::Ended => Offered::Refused(Refusal::ScriptEnded(Row(place)), words),
-        Word::OutOfRange => Offered::Refused(Refusal::WordOutOfRange(Row(place)), words + 1),
-        Word::Read(z) => match matches(image, i.rows, p, z, store) {
-            Match::Matched => Offered::Gave(z, words + 1),
-            Match::Failed => Offered::Refused(Refusal::Blocked(Row(place)), words + 1),
-            Match::Unsure => Offered::Refused(Refusal::Undefined(Row(place)), words + 1),
+        Word::Ended => Offered::refused(Refusal::ScriptEnded(Row(place)), words),
+        Word::OutOfRange => Offered::refused(Refusal::WordOutOfRange(Row(place)), words + 1),
+        Word::Read(z) => match matches(x.image, x.trailer.rows, p, z, store) {
+            Tested::Holds => Offered::gave(z, words + 1),
+            Tested::Fails => Offered::refused(Refusal::Blocked(Row(place)), words + 1),
+            Tested::Unsure => Offered::refused(Refusal::Undefined(Row(place)), words + 1),
         },
     }
 }
 
 // One offer, by its row's fields.
 fn accept(
-    image: &[u8],
-    i: Image,
+    x: &Automaton,
     place: u16,
     w: Fields,
     store: &mut [i32],
     script: &[u8],
     words: usize,
 ) -> Offered
-    requires { Accepts image.now i w store.old }
-    ensures { given result store.new ≡ accepts (tables_of image.now) (offer_by (tables_of image.now) w) script.now place store.old words }
+    requires { Accepts x.now.image.now x.now.trailer w store.old }
+    ensures { given result store.new ≡ accepts (tables x.now) (offer_by (tables x.now) w) script.now place store.old words }
 {
     if w.code == EMIT {
-        return emit(image, i.rows, place, w.a, store, words);
+        return emit(x.image, x.trailer.rows, place, w.a, store, words);
     }
-    receive(image, i, place, w.a, store, script, words)
+    receive(x, place, w.a, store, script, words)
 }
 
 // The offers from left to right, their values one after another; said on a gate once all are accepted.
 fn accept_all(
-    image: &[u8],
-    i: Image,
+    x: &Automaton,
     place: u16,
     w: Fields,
     store: &mut [i32],
@@ -95,25 +113,27 @@ fn accept_all(
     values: &mut [i32],
     run: Run,
 ) -> Ran
-    requires { AcceptsAll image.now i w.b store.old values.old run }
-    ensures { result_of result store.new values.new ≡ offering (tables_of image.now) (gate w.a) (offers_at (tables_of image.now) w.b) [] script.now place (state_of run store.old values.old) }
+    requires { AcceptsAll x.now.image.now x.now.trailer w.b store.old values.old run }
+    ensures { result_of result store.new values.new ≡ offering (tables x.now) (gate w.a) (offers_at (tables x.now) w.b) [] script.now place (state_of run store.old values.old) }
 {
+    // The list goes from row to row by their next fields: words and values are counted, and no range is gone over.
     let mut words = run.words;
     let mut count: u16 = 0;
     let mut r = w.b;
     while r != Image::NONE {
-        let o = row(image, i.rows, r);
-        match accept(image, i, place, o, store, script, words) {
-            Offered::Refused(y, n) => {
+        let o = row(x.image, x.trailer.rows, r);
+        let offered = accept(x, place, o, store, script, words);
+        words = offered.words;
+        match offered.value {
+            Err(y) => {
                 return Ran {
                     out: Outcome::Stops(y),
-                    run: at_word(run, n),
+                    run: Run { words, ..run },
                 };
             }
-            Offered::Gave(z, n) => {
+            Ok(z) => {
                 values[count as usize] = z;
                 count += 1;
-                words = n;
                 r = o.b;
             }
         }
@@ -121,19 +141,18 @@ fn accept_all(
     Ran {
         out: Outcome::Ends,
         run: Run {
-            words: words,
-            left: run.left,
+            words,
             spoken: true,
             gate: w.a,
-            count: count,
+            count,
+            ..run
         },
     }
 }
 
 // Communicates, once in a run: a second time is refused before any offer.
 pub fn communicate(
-    image: &[u8],
-    i: Image,
+    x: &Automaton,
     r: u16,
     w: Fields,
     store: &mut [i32],
@@ -141,14 +160,14 @@ pub fn communicate(
     values: &mut [i32],
     run: Run,
 ) -> Ran
-    requires { Communicates image.now i r w store.old values.old }
-    ensures { result_of result store.new values.new ≡ communicating (tables_of image.now) (gate w.a) (offers_at (tables_of image.now) w.b) script.now r (state_of run store.old values.old) }
+    requires { Communicates x.now.image.now x.now.trailer r w store.old values.old }
+    ensures { result_of result store.new values.new ≡ communicating (tables x.now) (gate w.a) (offers_at (tables x.now) w.b) script.now r (state_of run store.old values.old) }
 {
     if run.spoken {
         return Ran {
             out: Outcome::Stops(Refusal::SecondCommunication(Row(r))),
-            run: run,
+            run,
         };
     }
-    accept_all(image, i, r, w, store, script, values, run)
+    accept_all(x, r, w, store, script, values, run)
 }

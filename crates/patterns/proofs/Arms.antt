@@ -1,4 +1,5 @@
 -- The search for the first arm that matches, arm by arm. Assumes nothing.
+use Rattle.std.specs.Prelude.{Option}
 use mathlib.Core.{Path.◌≡◌, Path.refl, Path.sym, Path.ap, Path.◌∙◌, Path.subst, Logic.inl, Logic.inr, Logic.⊎_elim}
 use mathlib.Core.{Bool.true, List.List, List.◌∷◌}
 use Prim.Native.Nat.{ℕ, ◌+◌, ◌%◌, ◌<◌}
@@ -17,7 +18,7 @@ use Rattle.model.proofs.Decode.{list_at-none, list_at-step}
 use Rattle.image.proofs.Laid.{laid, rows-count}
 use Rattle.expressions.specs.Ready.{RowFrom}
 use Rattle.expressions.proofs.Ways.{located, forms}
-use Rattle.patterns.specs.declared.{Old.Old, Found.TheVariants.Arm, Found.TheVariants.NoArm}
+use Rattle.patterns.specs.declared.{Found.TheVariants.Arm, Found.TheVariants.NoArm}
 use Rattle.patterns.specs.declared.Found.TheVariants as finds
 use Rattle.patterns.specs.Bound.{judged, undone, Bound}
 use Rattle.patterns.specs.Matching.{Tries}
@@ -93,7 +94,7 @@ module _ {s : List ℕ} {rows here : ℕ} {z : ℤ} {m : List ℤ} (h : Finds s 
           ∙ ap (λ (g : Fields). by-match g.b (find_arm x (list_at x w.c) z m) m (match x (pattern_at x g.a) z m)) e
           ∙ sym (ap (λ (l : List ℕ). find_arm x l z m) (list_on e))
 
-      module _ {o : Old} {n : List ℤ} (b : Bound (tables_of s) (pattern_at (tables_of s) w.a) z m o n) {t : Tested} (g : t ≡ judged (tables_of s) (pattern_at (tables_of s) w.a) z n) where
+      module _ {o : Option (ℕ × ℤ)} {n : List ℤ} (b : Bound (tables_of s) (pattern_at (tables_of s) w.a) z m o n) {t : Tested} (g : t ≡ judged (tables_of s) (pattern_at (tables_of s) w.a) z n) where
         pub arm-found : t ≡ Holds → finding (Arm w.b) n ≡ find_arm (tables_of s) (list_at (tables_of s) here) z m
         unfolding by-match
         arm-found q = find-on (matched n) (match-as arm-tries refl b g Holds q)
@@ -120,7 +121,7 @@ pub seek-end : {s : List ℕ} {rows first here : ℕ} {y z : ℤ} {m k : List �
 seek-end {s} {first = first} {m = m} q d e = e ∙ d.same ∙ ap (λ (b : ℤ). find_arm (tables_of s) (list_at (tables_of s) first) b m) q
 
 pub seek-next : {s : List ℕ} {rows first here : ℕ} {z : ℤ} {m k : List ℤ} (d : Seek s rows first z m here k) (f : here ≡ none → ⊥) {w : Fields} (e : w ≡ fields_of (tables_of s) here)
-    {o : Old} {n : List ℤ} (b : Bound (tables_of s) (pattern_at (tables_of s) w.a) z k o n) {t : Tested} → t ≡ judged (tables_of s) (pattern_at (tables_of s) w.a) z n → t ≡ Fails
+    {o : Option (ℕ × ℤ)} {n : List ℤ} (b : Bound (tables_of s) (pattern_at (tables_of s) w.a) z k o n) {t : Tested} → t ≡ judged (tables_of s) (pattern_at (tables_of s) w.a) z n → t ≡ Fails
     → {l : List ℤ} → l ≡ undone o n → Seek s rows first z m w.c l
 seek-next {s} {rows} {first} {here} {z} {m} {k} d f {w} e b g q i =
     subst (Seek s rows first z m w.c) (sym (i ∙ b.back))

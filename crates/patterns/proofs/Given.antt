@@ -1,11 +1,12 @@
 -- What a match and a search give their callers. Assumes nothing.
+use Rattle.std.specs.Prelude.{Option, Some}
 use mathlib.Core.{Path.◌≡◌, Path.refl, Path.sym, Path.ap, Path.◌∙◌, Path.subst, Logic.inl, Logic.inr, Logic.⊎_elim}
 use mathlib.Core.{Bool.true, List.List, List.[], List.◌∷◌}
 use Prim.Native.Nat.{ℕ, suc, ◌≤◌, ◌<◌}
 use native.Mathlib.Omega.{arith}
 use lib.{Dec.eqb, IntN.ℤ}
 use borrow.Author.Tests.{eqb-true, eq-eqb}
-use Rattle.model.specs.declared.{Fields.Fields, Value.Value, Value.TheVariants.Is}
+use Rattle.model.specs.declared.{Fields.Fields, Tested.Tested, Tested.TheVariants.Holds, Tested.TheVariants.Fails, Tested.TheVariants.Unsure}
 use Rattle.model.specs.Image.{Tables, tables_of, fields_of}
 use Rattle.model.specs.Rows.{expression, action, arm as arm_kind, is_case, an_action, another, codes, lookup, shape_of, means_at, is_kind}
 use Rattle.model.specs.Trees.{Pat, Arms, no_arm, arm}
@@ -21,25 +22,24 @@ use Rattle.demands.proofs.{Good.Good, Good.GoodAct, Good.GoodArms, GoodRows.good
 use Rattle.expressions.specs.Ready.{Ready, Runs}
 use Rattle.expressions.proofs.Ways.{all, forms, local-is}
 use Rattle.values.proofs.Held.{held}
-use Rattle.patterns.specs.declared.{Match.Match, Match.TheVariants.Matched, Match.TheVariants.Failed, Found.Found, Found.TheVariants.Arm, Found.TheVariants.NoArm}
-use Rattle.patterns.specs.declared.Match.TheVariants as says
+use Rattle.patterns.specs.declared.{Found.Found, Found.TheVariants.Arm, Found.TheVariants.NoArm}
 use Rattle.patterns.specs.declared.Found.TheVariants as finds
 use Rattle.patterns.specs.Matching.{Tries, Matching, matching, matching_of, matches}
 use Rattle.patterns.specs.Finding.{Finds, Finding, finding, find_arm}
 use Rattle.patterns.proofs.Cases.{by-match}
 
 -- what the answer r and the store n after it say of a match
-abbrev pub Said : Match → List ℤ → List ℤ → run.Match → Type 0
-Said Matched n m y = y ≡ matched n
-Said Failed n m y = (y ≡ failed) × (n ≡ m)
-Said says.Unsure n m y = (y ≡ unsure) × (n ≡ m)
+abbrev pub Said : Tested → List ℤ → List ℤ → run.Match → Type 0
+Said Holds n m y = y ≡ matched n
+Said Fails n m y = (y ≡ failed) × (n ≡ m)
+Said Unsure n m y = (y ≡ unsure) × (n ≡ m)
 
 said_of : (y : run.Match) (m : List ℤ) → Said (matching_of y m).said (matching_of y m).store m y
 said_of (matched n) m = refl
 said_of failed m = (refl, refl)
 said_of unsure m = (refl, refl)
 
-pub said : {r : Match} {n : List ℤ} (x : Tables) (p : Pat) (z : ℤ) (m : List ℤ) → matching r n ≡ matches x p z m → Said r n m (match x p z m)
+pub said : {r : Tested} {n : List ℤ} (x : Tables) (p : Pat) (z : ℤ) (m : List ℤ) → matching r n ≡ matches x p z m → Said r n m (match x p z m)
 said x p z m e = subst (λ (g : Matching). Said g.said g.store m (match x p z m)) (sym e) (said_of (match x p z m) m)
 
 ready_on : {s : List ℕ} {m n : List ℤ} → Ready s m → TypedStore (tables_of s) n → Ready s n
@@ -120,7 +120,7 @@ module _ {s : List ℕ} {rows r : ℕ} {m : List ℤ} (h : Runs action s rows r 
   case-subject =
       record { ready = h.ready; start = h.start; kind = rw e (row_is (tables_of s) (forms h.ready) r (an_action is_case) is-case).a.kind }
 
-  module _ {v : Value} {z : ℤ} (f : v ≡ eval (tables_of s) (expression_at (tables_of s) w.a) m) (g : v ≡ Is z) where
+  module _ {v : Option ℤ} {z : ℤ} (f : v ≡ eval (tables_of s) (expression_at (tables_of s) w.a) m) (g : v ≡ Some z) where
     pub case-finds : Finds s rows w.b z m
     case-finds =
         let x = tables_of s in

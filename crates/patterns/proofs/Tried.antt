@@ -1,4 +1,5 @@
 -- What a match gives, its variable bound and its conditions judged. Assumes nothing.
+use Rattle.std.specs.Prelude.{Option, Some}
 use mathlib.Core.{Path.◌≡◌, Path.sym, Path.ap, Path.◌∙◌, Path.subst, Bool.Bool, Bool.true, Bool.false, List.List}
 use Prim.Native.Nat.{ℕ, ◌^◌, ◌<◌}
 use lib.{Dec.eqb, IntN.ℤ, ListN.length, ListN.set, Signed.mag}
@@ -15,20 +16,17 @@ use Rattle.expressions.proofs.{Operated.same-is, Ways.all}
 use Rattle.demands.proofs.GoodRows.{good-pat}
 use mir.{Syntax.w32, Val.of_z}
 use Rattle.values.proofs.Held.{held, held-is}
-use Rattle.patterns.specs.declared.{Old.Old, Old.TheVariants.Was}
 use Rattle.patterns.specs.Bound.{bound, inner, judged, base_of, undone, SlotIn, Bound}
-use Rattle.patterns.specs.declared.{Match.TheVariants.Matched, Match.TheVariants.Failed}
 use Rattle.patterns.specs.Matching.{Tries, matching, matching_of, matches}
 use Rattle.patterns.proofs.Judged.{match_by, match_is, bound-typed}
 use Rattle.model.specs.Run as run
-use Rattle.patterns.specs.declared.Match.TheVariants as says
 
 -- a slot given back
-pub was-in : (k : ℕ) {o : Old} {v : ℕ} {z : ℤ} → SlotIn o k → o ≡ Was v z → (v < k) × (mag z < 2 ^ 31)
-was-in k h e = subst (λ (o : Old). SlotIn o k) e h
+pub was-in : (k : ℕ) {o : Option (ℕ × ℤ)} {v : ℕ} {z : ℤ} → SlotIn o k → o ≡ Some (v, z) → (v < k) × (mag z < 2 ^ 31)
+was-in k h e = subst (λ (o : Option (ℕ × ℤ)). SlotIn o k) e h
 
-pub was-back : (n : List ℤ) (o : Old) {v : ℕ} {z : ℤ} → SlotIn o (length n) → o ≡ Was v z → set n v (held z) ≡ undone o n
-was-back n o {v} {z} h e = rw (held-is z (was-in (length n) h e).1) (sym (ap (λ (u : Old). undone u n) e))
+pub was-back : (n : List ℤ) (o : Option (ℕ × ℤ)) {v : ℕ} {z : ℤ} → SlotIn o (length n) → o ≡ Some (v, z) → set n v (held z) ≡ undone o n
+was-back n o {v} {z} h e = rw (held-is z (was-in (length n) h e).1) (sym (ap (λ (u : Option (ℕ × ℤ)). undone u n) e))
 
 -- a pattern without a condition, by its code and its constant
 by_code : Tested → Bool → Bool → Tested
@@ -54,11 +52,11 @@ module _ (w : Fields) (z : ℤ) (kept : Tested) where
     unfolding by_code
     base-differs f = base-by false (ne_eqb (of_z w32 z) (of_z w32 k) (λ q. f (sym q)))
 
-pub bound-still : {x : Tables} {p : Pat} {z : ℤ} {m : List ℤ} {o : Old} {n k : List ℤ} → Bound x p z m o n → k ≡ n → Bound x p z m o k
+pub bound-still : {x : Tables} {p : Pat} {z : ℤ} {m : List ℤ} {o : Option (ℕ × ℤ)} {n k : List ℤ} → Bound x p z m o n → k ≡ n → Bound x p z m o k
 bound-still {x} {p} {z} {m} {o} b e = subst (Bound x p z m o) (sym e) b
 
 -- a match, its variable bound for y, which is z
-module _ {s : List ℕ} {rows p : ℕ} {y z : ℤ} {m : List ℤ} (h : Tries s rows p z m) (q : y ≡ z) {o : Old} {n : List ℤ} (b : Bound (tables_of s) (pattern_at (tables_of s) p) y m o n) where
+module _ {s : List ℕ} {rows p : ℕ} {y z : ℤ} {m : List ℤ} (h : Tries s rows p z m) (q : y ≡ z) {o : Option (ℕ × ℤ)} {n : List ℤ} (b : Bound (tables_of s) (pattern_at (tables_of s) p) y m o n) where
   pub bound-as : n ≡ bound (tables_of s) (pattern_at (tables_of s) p) z m
   bound-as = b.after ∙ ap (λ (a : ℤ). bound (tables_of s) (pattern_at (tables_of s) p) a m) q
 
@@ -82,11 +80,11 @@ module _ {s : List ℕ} {rows p : ℕ} {y z : ℤ} {m : List ℤ} (h : Tries s r
         ∙ ap (λ (k : List ℤ). match_by (judged x d z k) k) bound-as
         ∙ sym (match_is x z d m)
 
-    pub gives-matched : t ≡ Holds → matching Matched n ≡ matches (tables_of s) (pattern_at (tables_of s) p) z m
+    pub gives-matched : t ≡ Holds → matching Holds n ≡ matches (tables_of s) (pattern_at (tables_of s) p) z m
     gives-matched f = ap (λ (y : run.Match). matching_of y m) (match-as Holds f)
 
-    pub gives-failed : {k : List ℤ} → t ≡ Fails → k ≡ undone o n → matching Failed k ≡ matches (tables_of s) (pattern_at (tables_of s) p) z m
-    gives-failed f g = ap (matching Failed) (g ∙ b.back) ∙ ap (λ (y : run.Match). matching_of y m) (match-as Fails f)
+    pub gives-failed : {k : List ℤ} → t ≡ Fails → k ≡ undone o n → matching Fails k ≡ matches (tables_of s) (pattern_at (tables_of s) p) z m
+    gives-failed f g = ap (matching Fails) (g ∙ b.back) ∙ ap (λ (y : run.Match). matching_of y m) (match-as Fails f)
 
-    pub gives-unsure : {k : List ℤ} → t ≡ Unsure → k ≡ undone o n → matching says.Unsure k ≡ matches (tables_of s) (pattern_at (tables_of s) p) z m
-    gives-unsure f g = ap (matching says.Unsure) (g ∙ b.back) ∙ ap (λ (y : run.Match). matching_of y m) (match-as Unsure f)
+    pub gives-unsure : {k : List ℤ} → t ≡ Unsure → k ≡ undone o n → matching Unsure k ≡ matches (tables_of s) (pattern_at (tables_of s) p) z m
+    gives-unsure f g = ap (matching Unsure) (g ∙ b.back) ∙ ap (λ (y : run.Match). matching_of y m) (match-as Unsure f)

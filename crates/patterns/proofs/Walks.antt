@@ -1,4 +1,5 @@
 -- The two walks from a pattern to the one inside all its conditions. Assumes nothing.
+use Rattle.std.specs.Prelude.{Some, None}
 use mathlib.Core.{Path.◌≡◌, Path.refl, Path.ap, Path.◌∙◌, List.List, List.[], List.◌∷◌}
 use Prim.Native.Nat.{ℕ, zero, suc, ◌^◌, ◌<◌}
 use native.Mathlib.Omega.{arith}
@@ -10,7 +11,6 @@ use Rattle.model.specs.Decode.{expression_at, pattern_at}
 use Rattle.model.specs.Run.{test}
 use Rattle.expressions.specs.{Ready.Runs}
 use Rattle.values.proofs.Held.{held, held-is}
-use Rattle.patterns.specs.declared.{Old.TheVariants.Nothing, Old.TheVariants.Was}
 use Rattle.patterns.specs.Bound.{bound, inner, judged, base_of, Bound}
 use Rattle.patterns.proofs.Judged.{inner-holds}
 use Rattle.patterns.proofs.Rows.{inner-row, condition-row, bound-inner, judged-inner, slot-inside, bound-variable, bound-other, judged-base}
@@ -40,7 +40,7 @@ module _ {s : List ℕ} {rows p : ℕ} {m : List ℤ} where
     slot-in q c = omega (arith, slot-inside d.runs e c, ap length q)
 
     pub bound-there : (z : ℤ) (k : List ℤ) → k ≡ m → w.code ≡ 33 → mag z < 2 ^ 31 → mag (get_or k w.a (pos 0)) < 2 ^ 31
-        → Bound (tables_of s) (pattern_at (tables_of s) p) z m (Was w.a (held (get_or k w.a (pos 0)))) (set k w.a (held z))
+        → Bound (tables_of s) (pattern_at (tables_of s) p) z m (Some (w.a, held (get_or k w.a (pos 0)))) (set k w.a (held z))
     bound-there z k q c f g =
         let i = slot-in q c in
         rw (held-is z f, held-is (get_or k w.a (pos 0)) g)
@@ -50,7 +50,7 @@ module _ {s : List ℕ} {rows p : ℕ} {m : List ℤ} where
           inside = (simp length-set i, g);
         })
 
-    pub bound-none : (z : ℤ) (k : List ℤ) → k ≡ m → (w.code ≡ 33 → ⊥) → (w.code ≡ 35 → ⊥) → Bound (tables_of s) (pattern_at (tables_of s) p) z m Nothing k
+    pub bound-none : (z : ℤ) (k : List ℤ) → k ≡ m → (w.code ≡ 33 → ⊥) → (w.code ≡ 35 → ⊥) → Bound (tables_of s) (pattern_at (tables_of s) p) z m None k
     bound-none z k q f g = record { after = q ∙ bound-other d.runs e f g z m ∙ d.same z; back = q; inside = tt }
 
 -- the walk down a pattern to judge its conditions

@@ -1,7 +1,7 @@
 -- A match in two parts: the store with the pattern's variable bound, and what the pattern gives on it (report, section 3.4; 01,
 -- "The step"). Assumes nothing.
 use mathlib.Core.{Path.◌≡◌, Bool.true, Bool.false, List.List}
-use Rattle.std.specs.Prelude.{ℕ, ◌^◌, ◌<◌}
+use Rattle.std.specs.Prelude.{ℕ, ◌^◌, ◌<◌, Option, Some, None, ℤ}
 use lib.{Dec.eqb, IntN.ℤ, ListN.length, ListN.set, Signed.mag}
 use Rattle.model.specs.declared.{Fields.Fields, Tested.Tested, Tested.TheVariants.Holds, Tested.TheVariants.Fails, Tested.TheVariants.Unsure}
 use Rattle.model.specs.Values.{same}
@@ -9,7 +9,6 @@ use Rattle.model.specs.Image.{Tables}
 use Rattle.model.specs.Trees.{Pat, any, bind, equals, guarded}
 use Rattle.model.specs.Run.{store, test}
 use Rattle.expressions.specs.Operators.{constant_by}
-use Rattle.patterns.specs.declared.{Old.Old, Old.TheVariants.Nothing, Old.TheVariants.Was}
 
 -- the store with the pattern's variable, if it has one, bound
 unfoldable pub bound : Tables → Pat → ℤ → List ℤ → List ℤ
@@ -36,17 +35,17 @@ unfoldable pub base_of : Fields → ℤ → Tested
 base_of w z = elim (eqb w.code 34) [ true ↦ elim (same z (constant_by w.a w.b)) [ true ↦ Holds | false ↦ Fails ] | false ↦ Holds ]
 
 -- the store with a slot as it was
-abbrev pub undone : Old → List ℤ → List ℤ
-undone Nothing n = n
-undone (Was v z) n = set n v z
+abbrev pub undone : Option (ℕ × ℤ) → List ℤ → List ℤ
+undone None n = n
+undone (Some (v, z)) n = set n v z
 
 -- the slot is one of the store's
-abbrev pub SlotIn : Old → ℕ → Type 0
-SlotIn Nothing k = Unit
-SlotIn (Was v z) k = (v < k) × (mag z < 2 ^ 31)
+abbrev pub SlotIn : Option (ℕ × ℤ) → ℕ → Type 0
+SlotIn None k = Unit
+SlotIn (Some (v, z)) k = (v < k) × (mag z < 2 ^ 31)
 
 -- n is the store m with the pattern's variable bound, and o gives m back
-pub record Bound (x : Tables) (p : Pat) (z : ℤ) (m : List ℤ) (o : Old) (n : List ℤ) : Type 0 where
+pub record Bound (x : Tables) (p : Pat) (z : ℤ) (m : List ℤ) (o : Option (ℕ × ℤ)) (n : List ℤ) : Type 0 where
   pub after : n ≡ bound x p z m
   pub back : undone o n ≡ m
   pub inside : SlotIn o (length n)

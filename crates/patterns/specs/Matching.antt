@@ -10,7 +10,7 @@ use Rattle.model.specs.Typing.{type_of_pat}
 use Rattle.model.specs.Run.{matched, failed, unsure, match}
 use Rattle.model.specs.Run as run
 use Rattle.expressions.specs.Ready.{Runs}
-use Rattle.patterns.specs.declared.{Match.Match, Match.TheVariants.Matched, Match.TheVariants.Failed, Match.TheVariants.Unsure}
+use Rattle.model.specs.declared.{Tested.Tested, Tested.TheVariants.Holds, Tested.TheVariants.Fails, Tested.TheVariants.Unsure}
 
 -- a pattern's row, and a value of its type
 pub record Tries (s : List ℕ) (rows p : ℕ) (z : ℤ) (m : List ℤ) : Type 0 where
@@ -19,16 +19,16 @@ pub record Tries (s : List ℕ) (rows p : ℕ) (z : ℤ) (m : List ℤ) : Type 0
 
 -- an answer and the store after it
 pub record Matching : Type 0 where
-  pub said : Match
+  pub said : Tested
   pub store : List ℤ
 
-abbrev pub matching : Match → List ℤ → Matching
+abbrev pub matching : Tested → List ℤ → Matching
 matching a n = record { said = a; store = n }
 
 -- "A failed match leaves the store"
 abbrev pub matching_of : run.Match → List ℤ → Matching
-matching_of (matched n) m = matching Matched n
-matching_of failed m = matching Failed m
+matching_of (matched n) m = matching Holds n
+matching_of failed m = matching Fails m
 matching_of unsure m = matching Unsure m
 
 -- match(v, ρ, P), with the store after it

@@ -20,14 +20,6 @@ const CONSTANT: u16 = 34;
 
 const WHERE: u16 = 35;
 
-// What a match gives.
-#[derive(Clone, Copy)]
-pub enum Match {
-    Matched,
-    Failed,
-    Unsure,
-}
-
 // The action's row of the first arm that matches.
 #[derive(Clone, Copy)]
 pub enum Found {
@@ -36,15 +28,8 @@ pub enum Found {
     Unsure,
 }
 
-// The slot that a pattern's variable was bound in, and what it held.
-#[derive(Clone, Copy)]
-enum Old {
-    Nothing,
-    Was(u16, i32),
-}
-
-// Binds the pattern's variable, if it has one.
-fn bind(image: &[u8], rows: u16, p: u16, z: i32, store: &mut [i32]) -> Old
+// Binds the pattern's variable, if it has one: its slot, and what it held.
+fn bind(image: &[u8], rows: u16, p: u16, z: i32, store: &mut [i32]) -> Option<(u16, i32)>
     requires { Runs pattern image.now rows p store.old }
     ensures { Bound (tables_of image.now) (pattern_at (tables_of image.now) p) z store.old result store.new }
 {
@@ -54,25 +39,22 @@ fn bind(image: &[u8], rows: u16, p: u16, z: i32, store: &mut [i32]) -> Old
         if w.code == VARIABLE {
             let was = store[w.a as usize];
             store[w.a as usize] = z;
-            return Old::Was(w.a, was);
+            return Some((w.a, was));
         }
         if w.code != WHERE {
-            return Old::Nothing;
+            return None;
         }
         here = w.a;
     }
 }
 
 // Gives the slot back what it held.
-fn restore(store: &mut [i32], old: Old)
+fn restore(store: &mut [i32], old: Option<(u16, i32)>)
     requires { SlotIn old (length store.old) }
     ensures { store.new ≡ undone old store.old }
 {
-    match old {
-        Old::Nothing => {}
-        Old::Was(v, z) => {
-            store[v as usize] = z;
-        }
+    if let Some((v, z)) = old {
+        store[v as usize] = z;
     }
 }
 
@@ -118,25 +100,26 @@ fn judge(image: &[u8], rows: u16, p: u16, z: i32, store: &[i32]) -> Tested
 }
 
 // Matches a value with a pattern.
-pub fn matches(image: &[u8], rows: u16, p: u16, z: i32, store: &mut [i32]) -> Match
+pub fn matches(image: &[u8], rows: u16, p: u16, z: i32, store: &mut [i32]) -> Tested
     requires { Tries image.now rows p z store.old }
     ensures { matching result store.new ≡ matches (tables_of image.now) (pattern_at (tables_of image.now) p) z store.old }
 {
     let old = bind(image, rows, p, z, store);
     match judge(image, rows, p, z, store) {
-        Tested::Holds => Match::Matched,
+        Tested::Holds => Tested::Holds,
         Tested::Fails => {
             restore(store, old);
-            Match::Failed
+            Tested::Fails
         }
         Tested::Unsure => {
             restore(store, old);
-            Match::Unsure
+            Tested::Unsure
         }
     }
 }
 
-// The first of the arms from a row on whose pattern matches; each is tried on the store at entry.
+// The first of the arms from a row on whose pattern matches; each is tried on the store at entry. Document 01 asks for one search
+// that leaves both walks at once, so that judge's walk stands here again.
 pub fn find_arm(image: &[u8], rows: u16, first: u16, z: i32, store: &mut [i32]) -> Found
     requires { Finds image.now rows first z store.old }
     ensures { finding result store.new ≡ find_arm (tables_of image.now) (list_at (tables_of image.now) first) z store.old }

@@ -2,10 +2,11 @@
 use mathlib.Core.{Path.◌≡◌, Path.refl, Path.sym, Path.ap, Path.◌∙◌, Path.subst, Bool.Bool, Bool.true, Bool.false, Bool.cond, List.List, List.[], List.◌∷◌, List.◌++◌, List.append-nil, List.append_assoc}
 use Prim.Native.Nat.{ℕ, suc, min, ◌+◌, ◌≤◌, ◌<◌}
 use native.Mathlib.{Numerals.add-one, Omega.arith}
+use Rattle.std.specs.Prelude.{Option}
 use lib.{Dec.eqb, ListN.length, ListN.get_or, ListN.take, ListN.set, ListN.length-set, ListN.replicate, ListN.length-replicate, ListN.get_or-replicate, ListN.length-take, Seq.get_or-take, Seq.get_or-set_same, Seq.get_or-set_other, Seq.take-suc, Seq.take_all}
 use borrow.Author.Tests.{eqb-true, eqb-false, eq-eqb, ne_eqb}
 use Rattle.model.specs.declared.Fields.{Fields}
-use Rattle.model.specs.Answers.{lowest}
+use Rattle.model.specs.Answers.{lowest, lowest_failing}
 use Rattle.model.specs.Image.{Tables, none, fields_of}
 use Rattle.model.specs.Rows.{Field, plain, one, one_or_none, list, list_or_none, next, shape_of, unless_none, named_by, named_in, named_by_rows, named, occurs, named_once}
 use Rattle.model.proofs.Order.{lowest-le, lowest-below, lowest-least, lowest-is}
@@ -167,12 +168,16 @@ lowest-same x l n e c =
     (λ k h. f k (omega (arith, lowest-le (named_once x) n)) ∙ lowest-below (named_once x) n k h)
     (λ h. f _ h ∙ lowest-least (named_once x) n h)
 
-pub lowest-named : (x : Tables) {l m k j : List ℕ} {n r t : ℕ} → Scratch l n → Counted l m (named_by_rows x.rows) → Counted m k x.states
-    → x.condition ≡ t → Counted k j (t ∷ []) → r ≡ lowest (once_in j) n → r ≡ lowest (named_once x) n
+failing-same : (p q : ℕ → Bool) (n : ℕ) → lowest p n ≡ lowest q n → lowest_failing p n ≡ lowest_failing q n
+unfolding lowest_failing
+failing-same p q n e = rw e
+
+pub lowest-named : (x : Tables) {l m k j : List ℕ} {n t : ℕ} {r : Option ℕ} → Scratch l n → Counted l m (named_by_rows x.rows) → Counted m k x.states
+    → x.condition ≡ t → Counted k j (t ∷ []) → r ≡ lowest_failing (once_in j) n → r ≡ lowest_failing (named_once x) n
 unfolding named
 lowest-named x {k = k} {j = j} {n = n} s p q e c l =
     let z = counted-then p (counted-then q (subst (λ (v : ℕ). Counted k j (v ∷ [])) (sym e) c)) in
-    l ∙ lowest-same x j n (z.exact ∙ s.exact) (z.also [] s.blank)
+    l ∙ failing-same (once_in j) (named_once x) n (lowest-same x j n (z.exact ∙ s.exact) (z.also [] s.blank))
 
 -- counts that are all 0
 pub scratch : (n m : ℕ) → n ≤ m → Scratch (take n (replicate m 0)) n

@@ -3,7 +3,7 @@ use mathlib.Core.{Path.◌≡◌, Path.refl, Path.sym, Path.ap, Path.◌∙◌, 
 use Prim.Native.Nat.{ℕ, zero, suc, ◌-◌, ◌/◌, ◌%◌, ◌≤◌, ◌<◌}
 use native.Mathlib.{Omega.arith}
 use lib.{Dec.eqb, Dec.ltb, Dec.leb-suc-suc, ListN.length, ListN.get_or-eq_default}
-use borrow.Author.Tests.{lt-ltb, le-ltb, le-leb, eq-eqb, ne_eqb}
+use borrow.Author.Tests.{lt-ltb, le-ltb, le-leb, eq-eqb, ne_eqb, eqb-true, eqb-false}
 use Rattle.model.specs.declared.{Image.Image, Fields.Fields}
 use Rattle.model.specs.Limits.{limits}
 use Rattle.model.specs.Image.{Tables, none, int, tables_of, size_of, fields_of}
@@ -76,9 +76,16 @@ module _ (x : Tables) (at : ℕ) where
   unfolding list_fits
   list_over left e = rw (ended left e, le-leb 0 left (omega arith))
 
-  pub list-long : (left : ℕ) → left ≡ 0 → (at ≡ none → ⊥) → false ≡ list_fits x left at
+  list-long : (left : ℕ) → left ≡ 0 → (at ≡ none → ⊥) → false ≡ list_fits x left at
   unfolding list_fits list_up_to
   list-long left e h = rw (e, goes_on 0 h)
+
+  pub list_end : (left : ℕ) → left ≡ 0 → eqb at none ≡ list_fits x left at
+  list_end left e = go (eqb at none) refl
+    where
+      go : (b : Bool) → eqb at none ≡ b → b ≡ list_fits x left at
+      go true f = list_over left (eqb-true at none f)
+      go false f = list-long left e (eqb-false at none f)
 
   pub list_on : (left m : ℕ) → (left ≡ 0 → ⊥) → (at ≡ none → ⊥) → m ≡ next_of x at → list_fits x (left - 1) m ≡ list_fits x left at
   unfolding list_fits

@@ -1,15 +1,15 @@
 // Number 7: each row is named exactly once. The namings of each row are counted, up to 2.
 ghost use Rattle.std.specs.Prelude.{◌≡◌, [], ◌∷◌, ◌+◌, ◌≤◌, min, length};
-ghost use Rattle.model.specs.Answers.{lowest};
-ghost use Rattle.model.specs.Image.{none, tables_of};
+ghost use Rattle.model.specs.Answers.{lowest_failing};
+ghost use Rattle.model.specs.Image.{none};
 ghost use Rattle.model.specs.Rows.{Field, named_by, named_in, named_by_rows, named_once};
-ghost use Rattle.image.specs.Located.{Located};
+ghost use Rattle.image.specs.Located.{tables, Located};
 ghost use Rattle.rows.specs.Lines.{digit, Table};
 ghost use Rattle.rows.specs.Judged.{Reading};
 ghost use Rattle.rows.specs.Counts.{Counted, Scratch, once_in};
 
 use crate::lines::{CODES, PLAIN, line_of};
-use image::{fields, row_count, state_count, state_row};
+use image::Automaton;
 use model::{Fields, Image};
 
 // One more, up to 2.
@@ -51,66 +51,52 @@ fn count_row(counts: &mut [u8], lines: &[u32; CODES], w: Fields)
 }
 
 // The namings by all rows.
-fn count_rows(counts: &mut [u8], image: &[u8], i: Image, lines: &[u32; CODES])
-    requires { (length counts.old ≤ none) × Reading image.now lines.now i }
-    ensures { Counted counts.old counts.new (named_by_rows (tables_of image.now).rows) }
+fn count_rows(counts: &mut [u8], x: &Automaton, lines: &[u32; CODES])
+    requires { (length counts.old ≤ none) × Reading x.now.image.now lines.now x.now.trailer }
+    ensures { Counted counts.old counts.new (named_by_rows (tables x.now).rows) }
 {
-    let n = row_count(image, i);
-    let mut r: u16 = 0;
-    while r < n {
-        let w = fields(image, i, r);
-        count_row(counts, lines, w);
-        r += 1;
+    let n = x.row_count();
+    for r in 0..n {
+        count_row(counts, lines, x.fields(r));
     }
 }
 
 // The namings by all states.
-fn count_states(counts: &mut [u8], image: &[u8], i: Image)
-    requires { Located image.now i }
-    ensures { Counted counts.old counts.new (tables_of image.now).states }
+fn count_states(counts: &mut [u8], x: &Automaton)
+    requires { Located x.now.image.now x.now.trailer }
+    ensures { Counted counts.old counts.new (tables x.now).states }
 {
-    let n = state_count(image, i);
-    let mut q: u16 = 0;
-    while q < n {
-        let r = state_row(image, i, q);
-        count(counts, r);
-        q += 1;
+    let n = x.state_count();
+    for q in 0..n {
+        count(counts, x.state_row(q));
     }
 }
 
-// The lowest of n rows that isn't counted once, or n.
-fn not_one(counts: &[u8], n: u16) -> u16
+// The lowest of n rows that isn't counted once.
+fn not_one(counts: &[u8], n: u16) -> Option<u16>
     requires { n ≡ length counts.now }
-    ensures { result ≡ lowest (once_in counts.now) n }
+    ensures { result ≡ lowest_failing (once_in counts.now) n }
 {
-    let mut r: u16 = 0;
-    while r < n {
-        let at = r as usize;
-        if counts[at] != 1 {
-            return r;
-        }
-        r += 1;
-    }
-    n
+    (0..n).find(|r| counts[*r as usize] != 1)
 }
 
-// The lowest of n rows that isn't named once, or n, by counts that are 0.
-fn not_once_by(counts: &mut [u8], image: &[u8], i: Image, lines: &[u32; CODES], n: u16) -> u16
-    requires { Reading image.now lines.now i × Scratch counts.old n }
-    ensures { result ≡ lowest (named_once (tables_of image.now)) n }
+// The lowest of n rows that isn't named once, by counts that are 0.
+fn not_once_by(counts: &mut [u8], x: &Automaton, lines: &[u32; CODES], n: u16) -> Option<u16>
+    requires { Reading x.now.image.now lines.now x.now.trailer × Scratch counts.old n }
+    ensures { result ≡ lowest_failing (named_once (tables x.now)) n }
 {
-    count_rows(counts, image, i, lines);
-    count_states(counts, image, i);
-    count(counts, i.condition);
+    count_rows(counts, x, lines);
+    count_states(counts, x);
+    count(counts, x.trailer.condition);
     not_one(counts, n)
 }
 
-// The lowest of the n rows that isn't named once, or n.
-pub fn not_once(image: &[u8], i: Image, lines: &[u32; CODES], n: u16) -> u16
-    requires { Reading image.now lines.now i × (n ≡ length (tables_of image.now).rows) }
-    ensures { result ≡ lowest (named_once (tables_of image.now)) n }
+// The lowest of the n rows that isn't named once.
+pub fn not_once(x: &Automaton, lines: &[u32; CODES], n: u16) -> Option<u16>
+    requires { Reading x.now.image.now lines.now x.now.trailer × (n ≡ length (tables x.now).rows) }
+    ensures { result ≡ lowest_failing (named_once (tables x.now)) n }
 {
     let mut counts = [0u8; Image::ROWS as usize];
     let end = n as usize;
-    not_once_by(&mut counts[..end], image, i, lines, n)
+    not_once_by(&mut counts[..end], x, lines, n)
 }

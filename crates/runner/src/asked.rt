@@ -1,5 +1,5 @@
 // What the arguments ask for.
-ghost use Rattle.std.specs.Prelude.{◌≤◌, length, IfOk};
+ghost use Rattle.std.specs.Prelude.{◌≤◌, length, IfOk, IfSome};
 
 use crate::args::{LONGEST, arg};
 use crate::load;
@@ -21,21 +21,12 @@ const PARAMETERS: usize = 65;
 
 const WORDS: usize = 1024;
 
-fn same(a: &[u8], b: &[u8]) -> bool {
-    a == b
-}
-
 pub(crate) fn option(word: &[u8]) -> Wish {
-    if same(word, b"-h") {
-        return Wish::Help;
+    match word {
+        b"-h" | b"--help" => Wish::Help,
+        b"--unchecked" => Wish::Unchecked,
+        _ => Wish::Checked,
     }
-    if same(word, b"--help") {
-        return Wish::Help;
-    }
-    if same(word, b"--unchecked") {
-        return Wish::Unchecked;
-    }
-    Wish::Checked
 }
 
 fn argument(rt: &impl Env, i: usize) -> Word {
@@ -53,52 +44,42 @@ fn complain(rt: &impl Env, err: &impl Print, what: &[u8], i: usize) -> io::Resul
     err.write_all(b"\n")
 }
 
-// Numbers taken from the arguments: how many, and where the reading ended; wrong where it's said already why.
+// Numbers taken from the arguments: how many, and where the reading ended.
 #[derive(Clone, Copy)]
 struct Taken {
     count: usize,
     next: usize,
-    wrong: bool,
 }
 
-// The numbers from an argument on, up to two dashes or the last argument.
+// The numbers from an argument on, up to two dashes or the last argument; none where it's said already what is wrong.
 fn numbers(
     rt: &impl Env,
     err: &impl Print,
     from: usize,
     end: usize,
     given: &mut [i32],
-) -> io::Result<Taken>
-    ensures { IfOk result (λ t. t.count ≤ length given.old) }
+) -> io::Result<Option<Taken>>
+    ensures { IfOk result (λ r. IfSome r (λ t. t.count ≤ length given.old)) }
 {
-    let mut i = from;
-    let mut k = 0;
-    let mut wrong = false;
-    while i < end {
+    let mut count = 0;
+    for i in from..end {
         match argument(rt, i) {
             Word::Number(z) => {
-                if given.len() <= k {
+                if given.len() <= count {
                     complain(rt, err, b"too many numbers, from this one on: ", i)?;
-                    wrong = true;
-                    break;
+                    return Ok(None);
                 }
-                given[k] = z;
-                k += 1;
+                given[count] = z;
+                count += 1;
             }
-            Word::Dashes => break,
+            Word::Dashes => return Ok(Some(Taken { count, next: i })),
             Word::Neither => {
                 complain(rt, err, b"no number of 32 bits: ", i)?;
-                wrong = true;
-                break;
+                return Ok(None);
             }
         }
-        i += 1;
     }
-    Ok(Taken {
-        count: k,
-        next: i,
-        wrong: wrong,
-    })
+    Ok(Some(Taken { count, next: end }))
 }
 
 // The script's words, behind the two dashes at an argument, in bytes.
@@ -108,20 +89,18 @@ fn script(
     at: usize,
     end: usize,
     bytes: &mut [u8],
-) -> io::Result<Taken>
+) -> io::Result<Option<Taken>>
     requires { 4096 ≤ length bytes.old }
-    ensures { IfOk result (λ t. t.count ≤ 1024) }
+    ensures { IfOk result (λ r. IfSome r (λ t. t.count ≤ 1024)) }
 {
     let mut given = [0i32; WORDS];
     if end <= at {
-        return Ok(Taken {
-            count: 0,
-            next: at,
-            wrong: false,
-        });
+        return Ok(Some(Taken { count: 0, next: at }));
     }
     let s = numbers(rt, err, at + 1, end, &mut given)?;
-    put_words(bytes, &given, s.count);
+    if let Some(t) = s {
+        put_words(bytes, &given[..t.count]);
+    }
     Ok(s)
 }
 
@@ -138,14 +117,12 @@ pub(crate) fn automaton(
     if end <= at {
         return Ok(());
     }
-    let p = numbers(rt, err, at + 1, end, &mut params)?;
-    if p.wrong {
+    let Some(p) = numbers(rt, err, at + 1, end, &mut params)? else {
         return Ok(());
-    }
-    let s = script(rt, err, p.next, end, &mut bytes)?;
-    if s.wrong {
+    };
+    let Some(s) = script(rt, err, p.next, end, &mut bytes)? else {
         return Ok(());
-    }
+    };
     if s.next < end {
         return complain(rt, err, b"a second script: ", s.next);
     }

@@ -3,106 +3,66 @@ use model::{Image, Move, Refusal, State};
 use std::io;
 use values::size;
 
-pub(crate) fn text(rt: &impl Print, bytes: &[u8]) -> io::Result<()> {
-    rt.write_all(bytes)
-}
-
-fn unsigned(rt: &impl Print, n: u32) -> io::Result<()> {
-    rt.print(n)
-}
-
-fn signed(rt: &impl Print, n: i32) -> io::Result<()> {
-    rt.print(n)
-}
-
-// A word of the store; an undefined one is u.
-fn slot(rt: &impl Print, n: i32) -> io::Result<()> {
-    text(rt, b" ")?;
-    if n == Image::UNDEFINED {
-        return text(rt, b"u");
-    }
-    signed(rt, n)
-}
-
+// The words of the store; an undefined one is u.
 pub(crate) fn store(rt: &impl Print, words: &[i32]) -> io::Result<()> {
-    text(rt, b"store:")?;
+    rt.write_all(b"store:")?;
     for n in words {
-        slot(rt, *n)?;
+        if *n == Image::UNDEFINED {
+            rt.write_all(b" u")?;
+        } else {
+            print!(rt; " {n}")?;
+        }
     }
-    text(rt, b"\n")
+    rt.write_all(b"\n")
 }
 
 // What a refusal's place is.
-fn place(rt: &impl Print, n: u16) -> io::Result<()> {
-    match n {
-        5 | 7..=9 | 21..=27 => text(rt, b" at row "),
-        6 | 11 | 12 => text(rt, b" at state "),
-        15 | 18 => text(rt, b" at variable "),
-        _ => text(rt, b" at "),
+fn place(y: Refusal) -> &'static str {
+    match y {
+        Refusal::NoCondition(_) => "the condition, place ",
+        _ => match y.number() {
+            5 | 7..=9 | 21..=27 => "row ",
+            6 | 11 | 12 => "state ",
+            15 | 18 => "variable ",
+            _ => "",
+        },
     }
 }
 
 pub(crate) fn refused(rt: &impl Print, y: Refusal) -> io::Result<()> {
-    let n = y.number();
-    text(rt, b"refused, ")?;
-    unsigned(rt, n as u32)?;
-    match y {
-        Refusal::NoCondition(_) => text(rt, b" at the condition, place ")?,
-        _ => place(rt, n)?,
-    }
-    unsigned(rt, y.place() as u32)?;
-    text(rt, b"\n")
+    println!(rt; "refused, {} at {}{}", y.number(), place(y), y.place())
 }
 
-// The values of a label, whose second word is their number.
-fn values(rt: &impl Print, words: &[i32]) -> io::Result<()> {
-    if words.len() < 2 {
+// A label: its gate and its values, whose number is the second word.
+fn label(rt: &impl Print, words: &[i32]) -> io::Result<()> {
+    let Some(gate) = words.first() else {
         return Ok(());
+    };
+    if *gate < 0 {
+        return rt.write_all(b"no communication");
     }
-    let count = size(words[1]) as usize;
+    print!(rt; "gate {gate}")?;
+    let count = words.get(1).map_or(0, |n| size(*n) as usize);
     for n in words.iter().skip(2).take(count) {
-        text(rt, b" ")?;
-        signed(rt, *n)?;
+        print!(rt; " {n}")?;
     }
     Ok(())
 }
 
-fn label(rt: &impl Print, words: &[i32]) -> io::Result<()> {
-    if words.len() < 1 {
-        return Ok(());
-    }
-    if words[0] < 0 {
-        return text(rt, b"no communication");
-    }
-    text(rt, b"gate ")?;
-    signed(rt, words[0])?;
-    values(rt, words)
-}
-
 pub(crate) fn at(rt: &impl Print, q: State) -> io::Result<()> {
-    text(rt, b"state ")?;
-    unsigned(rt, q.0 as u32)?;
-    text(rt, b": ")
+    print!(rt; "state {}: ", q.0)
 }
 
 pub(crate) fn moved(rt: &impl Print, m: Move, words: &[i32]) -> io::Result<()> {
-    let next = m.next;
     label(rt, words)?;
-    text(rt, b", to ")?;
-    unsigned(rt, next.0 as u32)?;
-    text(rt, b", units ")?;
-    unsigned(rt, m.units)?;
-    text(rt, b", words ")?;
-    unsigned(rt, m.words)?;
-    text(rt, b"\n")
+    println!(rt; ", to {}, units {}, words {}", m.next.0, m.units, m.words)
 }
 
 // What of the script no step has read.
-pub(crate) fn left(rt: &impl Print, bytes: usize) -> io::Result<()> {
-    if bytes / 4 == 0 {
+pub(crate) fn left(rt: &impl Print, script: &[u8]) -> io::Result<()> {
+    let words = script.len() / 4;
+    if words == 0 {
         return Ok(());
     }
-    text(rt, b"words left over: ")?;
-    rt.print(bytes / 4)?;
-    text(rt, b"\n")
+    println!(rt; "words left over: {words}")
 }

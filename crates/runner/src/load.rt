@@ -1,20 +1,10 @@
 // The image's file.
 use crate::args::{LONGEST, arg};
 use crate::run::automaton;
-use model::Image;
+use loading::load_image;
 use std::fs::File;
 use std::io;
-use std::io::Read;
 use std::rt::{Env, Files};
-
-// One byte more than an image may have is read, so that a longer one is refused.
-const ROOM: u64 = Image::LENGTH as u64 + 1;
-
-// An empty file gives nothing; one that can't be read is an error.
-fn fill(file: impl Read + Drop, image: &mut Vec<u8>) -> io::Result<()> {
-    file.take(ROOM).read_to_end(image)?;
-    Ok(())
-}
 
 // The system's words for an error, without its number.
 fn reason(text: &str) -> &str {
@@ -32,12 +22,10 @@ fn fail(rt: &impl AllocGlobal, err: &impl Print, path: &[u8], e: io::Error) -> i
     err.println(reason(text.as_str()))
 }
 
-// The bytes of the file at a path, which has to be text.
+// The bytes of the file at a path, which has to be text. An empty file gives none; one that can't be read is an error.
 fn bytes(rt: &(impl Files + AllocGlobal), path: &[u8]) -> io::Result<Vec<u8>> {
-    let mut image = Vec::new(rt.alloc());
     let path = io::read_to_string(rt.alloc(), path)?;
-    fill(File::open(rt, path.as_str())?, &mut image)?;
-    Ok(image)
+    load_image(File::open(rt, path.as_str())?, rt.alloc())
 }
 
 // The automaton in the file that an argument names.

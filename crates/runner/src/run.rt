@@ -1,9 +1,9 @@
 // The run: check, start, then step after step.
-ghost use Rattle.std.specs.Prelude.{◌≡◌, ◌+◌, ◌*◌, ◌≤◌, min};
+ghost use Rattle.std.specs.Prelude.{◌≤◌};
 
 use crate::line;
-use image::trailer;
-use model::{Image, State, Stepped, Verdict};
+use image::{Automaton, trailer};
+use model::{Image, Move, State};
 use ntif::{check, start, step};
 use std::io;
 
@@ -12,14 +12,6 @@ const STEPS: u32 = 1000;
 
 const VARIABLES: usize = Image::VARIABLES as usize;
 
-// Where a run stands: the state, the bytes of the script read so far, and whether a step was refused there.
-#[derive(Clone, Copy)]
-struct Place {
-    state: State,
-    read: usize,
-    ended: bool,
-}
-
 // The variables that the trailer says; what it says wrong is refused before they are counted.
 fn variables(image: &[u8]) -> usize
     ensures { result ≤ 64 }
@@ -27,67 +19,44 @@ fn variables(image: &[u8]) -> usize
     if image.len() < 16 {
         return 0;
     }
-    let i = trailer(image);
-    if i.states < i.variables {
+    let x = Automaton {
+        image,
+        trailer: trailer(image),
+    };
+    if x.trailer.states < x.trailer.variables {
         return 0;
     }
-    let n = ((i.states - i.variables) / 4) as usize;
+    let n = ((x.trailer.states - x.trailer.variables) / 4) as usize;
     if VARIABLES < n {
         return VARIABLES;
     }
     n
 }
 
-// So many words on, up to the end.
-fn onward(at: usize, words: u32, end: usize) -> usize
-    ensures { result ≡ min (at + 4 * words) end }
-{
-    if end < at {
-        return end;
-    }
-    let n = words as usize;
-    if (end - at) / 4 < n {
-        return end;
-    }
-    at + 4 * n
-}
-
-// A step from a place, with what is left of the script, and its line.
+// A step with what is left of the script, and its line; the move, or none where the step was refused.
 fn one(
     rt: &impl Print,
     image: &[u8],
-    p: Place,
+    q: State,
     store: &mut [i32],
     script: &[u8],
     label: &mut [i32],
-) -> io::Result<Place> {
-    let q = p.state;
-    let at = onward(p.read, 0, script.len());
+) -> io::Result<Option<Move>> {
     line::at(rt, q)?;
-    let r = step(image, q, store, &script[at..], Image::BUDGET, label);
+    let r = step(image, q, store, script, Image::BUDGET, label);
     match r {
-        Stepped::Moved(m) => {
-            let next = m.next;
-            let read = onward(at, m.words, script.len());
+        Ok(m) => {
             line::moved(rt, m, label)?;
-            Ok(Place {
-                state: next,
-                read: read,
-                ended: false,
-            })
+            Ok(Some(m))
         }
-        Stepped::NotMoved(y) => {
+        Err(y) => {
             line::refused(rt, y)?;
-            Ok(Place {
-                state: q,
-                read: at,
-                ended: true,
-            })
+            Ok(None)
         }
     }
 }
 
-// Step after step until one is refused; then how many bytes of the script are left.
+// Step after step until one is refused; then what is left of the script.
 fn steps(
     rt: &impl Print,
     image: &[u8],
@@ -95,25 +64,17 @@ fn steps(
     script: &[u8],
     label: &mut [i32],
 ) -> io::Result<()> {
-    let mut p = Place {
-        state: State(0),
-        read: 0,
-        ended: false,
-    };
+    let mut q = State(0);
+    let mut rest = script;
     for _ in 0..STEPS {
-        if p.ended {
-            break;
-        }
-        p = one(rt, image, p, store, script, label)?;
+        let Some(m) = one(rt, image, q, store, rest, label)? else {
+            return line::left(rt, rest);
+        };
+        q = m.next;
+        rest = rest.get(4 * m.words as usize..).unwrap_or(b"");
     }
-    if !p.ended {
-        line::text(rt, b"no refusal in 1000 steps\n")?;
-    }
-    let at = p.read;
-    if at <= script.len() {
-        line::left(rt, script.len() - at)?;
-    }
-    Ok(())
+    rt.write_all(b"no refusal in 1000 steps\n")?;
+    line::left(rt, rest)
 }
 
 fn begin(
@@ -126,11 +87,11 @@ fn begin(
     let mut label = [0i32; Image::LABEL as usize];
     let v = start(image, params, store);
     match v {
-        Verdict::Refused(y) => {
-            line::text(rt, b"start: ")?;
+        Err(y) => {
+            rt.write_all(b"start: ")?;
             line::refused(rt, y)
         }
-        Verdict::Accepted => {
+        Ok(()) => {
             steps(rt, image, store, script, &mut label)?;
             line::store(rt, store)
         }
@@ -141,13 +102,13 @@ fn begin(
 fn checked(rt: &impl Print, image: &[u8], unchecked: bool) -> io::Result<bool> {
     let mut sets = [0u64; Image::STATES as usize];
     let v = check(image, &mut sets);
-    line::text(rt, b"check: ")?;
+    rt.write_all(b"check: ")?;
     match v {
-        Verdict::Accepted => {
-            line::text(rt, b"accepted\n")?;
+        Ok(()) => {
+            rt.write_all(b"accepted\n")?;
             Ok(true)
         }
-        Verdict::Refused(y) => {
+        Err(y) => {
             line::refused(rt, y)?;
             Ok(unchecked)
         }

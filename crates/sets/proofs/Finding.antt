@@ -1,13 +1,14 @@
 -- The largest sets: where they begin, that they are found when nothing is due; and 11 judged there. Assumes nothing.
-use mathlib.Core.{Path.◌≡◌, Path.refl, Path.sym, Path.ap, Path.◌∙◌, Bool.Bool, Bool.true, Bool.false, Bool.not, Bool.cond, Bool.◌||◌, Bool.not-not, List.List, List.◌++◌}
-use Prim.Native.Nat.{ℕ, ◌+◌, ◌*◌, ◌%◌, ◌^◌, ◌≤◌, ◌<◌}
+use Rattle.std.specs.Prelude.{Ok, Err}
+use mathlib.Core.{Path.◌≡◌, Path.refl, Path.sym, Path.ap, Path.◌∙◌, Bool.Bool, Bool.true, Bool.false, Bool.not, Bool.cond, Bool.◌||◌, Bool.not-not, List.List}
+use Prim.Native.Nat.{ℕ, ◌+◌, ◌^◌, ◌<◌}
 use native.Mathlib.{Omega.arith, Decide.ℕ_discrete}
-use lib.{Bits.bit_or, Dec.eqb, ListN.length, ListN.get_or, ListN.drop, ListN.set, ListN.length-set, Seq.get_or-set_same, Seq.get_or-set_other, Seq.ext_get_or}
+use lib.{Bits.bit_and, Bits.bit_or, Dec.eqb, ListN.length, ListN.get_or, ListN.take, ListN.length-take, Pow.pow_mono, ListN.set, ListN.length-set, ListN.replicate, ListN.length-replicate, ListN.get_or-replicate, Seq.get_or-set_same, Seq.get_or-set_other, Seq.get_or-take, Seq.ext_get_or}
 use borrow.Author.Tests.{ne_eqb, eqb-true, eqb-false}
-use Rattle.model.specs.declared.{Image.Image, Verdict.Verdict, Verdict.TheVariants.Accepted, Verdict.TheVariants.Refused, Refusal.TheVariants.Initialisation}
+use Rattle.model.specs.declared.{Image.Image, Refusal.TheVariants.Initialisation}
 use Rattle.model.specs.Answers.{state}
-use Rattle.model.specs.Masks.{digit, Has, has, full}
-use Rattle.model.specs.Image.{Tables, none, tables_of, state_count}
+use Rattle.model.specs.Masks.{digit, Has, has, bit, full, without}
+use Rattle.model.specs.Image.{Tables, none, tables_of, state_count, row_count}
 use Rattle.model.specs.Binding.{parameters_of}
 use Rattle.model.specs.Decode.{action_at, act}
 use Rattle.model.specs.Sets.{fine}
@@ -21,12 +22,14 @@ use Rattle.demands.proofs.Greatest.{Leads, reached-all, reached-in, at_rest, one
 use Rattle.demands.proofs.Solved.{sets-length, sets-largest}
 use Rattle.demands.proofs.Reaching.{reached-sound, reached-found}
 use Rattle.sets.specs.Flow.{flow, Walked, Ready}
-use Rattle.sets.specs.States.{set_at, Beginning, Above, Given, Lowest, Marked, Settled, Judged, EachState, Found}
+use Rattle.sets.specs.States.{set_at, Beginning, Above, Given, Lowest, Marked, Settled, Judged, Lending, Rows, EachState}
+use Rattle.masks.specs.declared.Masks.{Masks}
+use Rattle.masks.specs.Masks.{masks, masks_in}
 use Rattle.masks.proofs.ParameterMask.{parameters-in}
 use Rattle.sets.proofs.Rest.{moved-alone}
 use Rattle.sets.proofs.Leading.{leads-of, lead-inside, lead_is}
 use Rattle.sets.proofs.Relaxing.{near, by_state, state-small, state-ready, relaxed, fine-as}
-use Rattle.sets.proofs.Turning.{Turn, due-as, turn-as}
+use Rattle.sets.proofs.Turning.{Turn, turn-as}
 use Rattle.sets.proofs.Visiting.{remaining, Done, Visiting, visiting-less, visiting-on}
 
 -- ---- the beginning
@@ -38,29 +41,25 @@ begun-length : (x : Tables) → length (begun x) ≡ length x.states
 unfolding begun
 begun-length x = length-table _ 0 (length x.states)
 
--- one more state has all variables
-pub filled_on : (l : List ℕ) (k top : ℕ) → k < length l → ((q : ℕ) → q < k → get_or l q 0 ≡ top) → (q : ℕ) → q < k + 1 → get_or (set l k top) q 0 ≡ top
-filled_on l k top b h q c = go (ℕ_discrete q k)
-  where
-    go : Dec (q ≡ k) → get_or (set l k top) q 0 ≡ top
-    go (yes e) = rw e (get_or-set_same l k top 0 b)
-    go (no f) = get_or-set_other l k q top 0 f ∙ h q (omega arith)
-
 module _ {s : List ℕ} {i : Image} {top : ℕ} {l : List ℕ} (d : Beginning s i top l) where
-  pub begin-few : length l ≤ 64
-  begin-few = let p = d.formed.located in omega (arith, d.size, states-count p, (laid p).states_most)
-
   pub begin-some : 0 < length l
   begin-some = let p = d.formed.located in omega (arith, d.size, states-count p, (laid p).states_least)
 
 -- all variables everywhere, then the parameters at state 0
-pub begun-is : (x : Tables) (top p : ℕ) (l : List ℕ) → 0 < length x.states → length l ≡ length x.states → top ≡ top_of x → p ≡ parameters_of x.variables
-    → ((q : ℕ) → q < length l → get_or l q 0 ≡ top) → set l 0 p ≡ begun x
-begun-is x top p l z n e f h = ext_get_or 0 (set l 0 p) (begun x) (length-set l 0 p ∙ n ∙ sym (begun-length x)) (λ q b. go q (omega (arith, length-set l 0 p)) (ℕ_discrete q 0))
+begun-is : (x : Tables) (n top p : ℕ) → 0 < n → n ≡ length x.states → top ≡ top_of x → p ≡ parameters_of x.variables
+    → set (replicate n top) 0 p ≡ begun x
+begun-is x n top p z m e f = ext_get_or 0 (set (replicate n top) 0 p) (begun x) (size ∙ m ∙ sym (begun-length x)) (λ q b. go q (omega (arith, size)) (ℕ_discrete q 0))
   where
-    go : (q : ℕ) → q < length l → Dec (q ≡ 0) → get_or (set l 0 p) q 0 ≡ get_or (begun x) q 0
-    go q b (yes k) = rw (k, get_or-set_same l 0 p 0 (omega arith), begun-at x 0 z) f
-    go q b (no k) = rw (get_or-set_other l 0 q p 0 k, begun-at x q (omega arith), ne_eqb q 0 k) (h q b ∙ e)
+    size : length (set (replicate n top) 0 p) ≡ n
+    size = length-set (replicate n top) 0 p ∙ length-replicate n top
+
+    go : (q : ℕ) → q < n → Dec (q ≡ 0) → get_or (set (replicate n top) 0 p) q 0 ≡ get_or (begun x) q 0
+    go q b (yes k) = rw (k, get_or-set_same (replicate n top) 0 p 0 (omega (arith, length-replicate n top)), begun-at x 0 (omega arith)) f
+    go q b (no k) = rw (get_or-set_other (replicate n top) 0 q p 0 k, begun-at x q (omega arith), ne_eqb q 0 k) (get_or-replicate n q top 0 b ∙ e)
+
+pub begun-all : {s : List ℕ} {i : Image} {top p : ℕ} {l k : List ℕ} → Beginning s i top l → k ≡ replicate (length l) top
+    → p ≡ parameters_of (tables_of s).variables → set k 0 p ≡ begun (tables_of s)
+begun-all d e f = rw e (begun-is _ _ _ _ (begin-some d) d.size d.all f)
 
 module _ (x : Tables) (inside : Sub (parameters_of x.variables) (top_of x)) where
   pick : (P : ℕ → Type 0) (q : ℕ) → (q ≡ 0 → P (parameters_of x.variables)) → P (top_of x) → P (cond (eqb q 0) (parameters_of x.variables) (top_of x))
@@ -84,38 +83,51 @@ module _ (x : Tables) (inside : Sub (parameters_of x.variables) (top_of x)) wher
   }
 
 -- ---- one walk
-module _ {s : List ℕ} {i : Image} {uses defs leads : List ℕ} {top : ℕ} (g : Given s i uses defs leads top) {was : List ℕ} {due walked wrong : ℕ}
+module _ {s : List ℕ} {i : Image} {ms : List Masks} {top : ℕ} (g : Given s i ms top) {was : List ℕ} {due walked wrong : ℕ}
     (d : Visiting (tables_of s) was due walked wrong) {k : ℕ} (m : Lowest due k) where
   pub due-inside : k < length was
-  due-inside = omega (arith, d.stage.size, reached-in (tables_of s) (leads-of g.leading.rooted) k (d.due_in k m.here))
+  due-inside = omega (arith, d.stage.size, reached-in (tables_of s) (leads-of g.rows.lending.rooted) k (d.due_in k m.here))
 
   due-state : k < state_count i
   due-state = state-small g d.stage k due-inside
 
   pub due-located : StateOf s i k
-  due-located = record { located = g.leading.rooted.formed.located; inside = due-state }
+  due-located = record { located = g.rows.lending.rooted.formed.located; inside = due-state }
 
   module _ {row : ℕ} (e : row ≡ get_or (tables_of s).states k none) where
-    pub due-lead : row < length leads
-    due-lead = lead-inside g.leading k row due-state e
+    pub due-lead : row < length ms
+    due-lead = lead-inside g.rows k row due-state e
 
-    pub due-ready : Ready s i uses defs row top was
+    pub due-ready : Ready s i ms row top was
     due-ready = state-ready g d.stage k row due-inside e
 
-    module _ (fits : get_or leads row 0 < 2 ^ 64) {now' : List ℕ} {mv : ℕ} {ok : Bool} {n : ℕ}
+    lead-fits : (masks_in ms row).leads < 2 ^ 64
+    lead-fits =
+        let x = tables_of s in
+        let n = laid g.rows.lending.rooted.formed.located in
+        omega (
+          arith,
+          lead_is g.rows k row due-state e,
+          (leads-of g.rows.lending.rooted).inner k (omega (arith, due-inside, d.stage.size)),
+          pow_mono {i = length x.states} {j = 64} (omega (arith, n.states_most, states-count g.rows.lending.rooted.formed.located)),
+        )
+
+    -- b: the state's bit; rest: those due but for it; fresh: those that it leads to and that aren't walked
+    module _ {b mv rest fresh : ℕ} (is : b ≡ bit k) (f : rest ≡ without due b)
+        (h : fresh ≡ without (masks_in ms row).leads (bit_or walked b)) {now' : List ℕ} {ok : Bool} {n : ℕ}
         (w : Walked (flow top (get_or was k 0) (action_at (tables_of s) row)) was now' 0 mv true ok n) where
       abbrev due_then : ℕ
-      due_then = due-as k (get_or leads row 0) mv due walked m.small d.due_fits d.walked_fits fits
+      due_then = bit_or (bit_or rest (bit_and (masks_in ms row).leads mv)) fresh
 
-      turns : Turn k (get_or leads row 0) mv due walked due_then (bit_or walked (1 * 2 ^ k % 2 ^ 64))
-      turns = turn-as k (get_or leads row 0) mv due walked m.small d.due_fits d.walked_fits fits m.here
+      turns : Turn k (masks_in ms row).leads mv due walked due_then (bit_or walked b)
+      turns = turn-as k (masks_in ms row).leads mv due walked m.small d.due_fits d.walked_fits lead-fits is f h m.here
 
-      pub walk-less : remaining now' due_then (bit_or walked (1 * 2 ^ k % 2 ^ 64)) < remaining was due walked
-      walk-less = visiting-less d turns (lead_is g.leading k row due-state e) (moved-alone w.moves)
+      pub walk-less : remaining now' due_then (bit_or walked b) < remaining was due walked
+      walk-less = visiting-less d turns (lead_is g.rows k row due-state e) (moved-alone w.moves)
 
-      pub walk-on : {wrong' : ℕ} → Marked k ok wrong wrong' → Visiting (tables_of s) now' due_then (bit_or walked (1 * 2 ^ k % 2 ^ 64)) wrong'
+      pub walk-on : {wrong' : ℕ} → Marked k ok wrong wrong' → Visiting (tables_of s) now' due_then (bit_or walked b) wrong'
       walk-on j =
-          visiting-on d turns (lead_is g.leading k row due-state e) (moved-alone w.moves) (relaxed g d.stage k row due-inside e w) j
+          visiting-on d turns (lead_is g.rows k row due-state e) (moved-alone w.moves) (relaxed g d.stage k row due-inside e w) j
           (fine-as g d.stage k row due-inside e w)
 
 -- ---- the end: nothing is due
@@ -159,22 +171,22 @@ module _ {x : Tables} (w : Leads x) (inside : Sub (parameters_of x.variables) (t
     inside = λ t h. reached-in x w t (d.walked_in t (omega (arith, d.wrong_in t, digit-le walked t)));
   }
 
-pub settled-of : {s : List ℕ} {i : Image} {uses defs leads : List ℕ} {top : ℕ} → Given s i uses defs leads top → {l : List ℕ} {due walked wrong : ℕ}
+pub settled-of : {s : List ℕ} {i : Image} {ms : List Masks} {top : ℕ} → Given s i ms top → {l : List ℕ} {due walked wrong : ℕ}
     → Visiting (tables_of s) l due walked wrong → due ≡ 0 → Settled (tables_of s) wrong l
-settled-of {s} g d z = visiting-last (leads-of g.leading.rooted) (parameters-in (tables_of s) g.leading.rooted.formed.entries) d z
+settled-of {s} g d z = visiting-last (leads-of g.rows.lending.rooted) (parameters-in (tables_of s) g.rows.lending.rooted.formed.entries) d z
 
 -- ---- 11
 module _ {x : Tables} {wrong : ℕ} {l : List ℕ} (d : Settled x wrong l) where
   errs-not : (t : ℕ) → digit wrong t ≡ 0 → initialised x (reached_of x) (sets_of x) t ≡ true
   errs-not t e = d.errs t ∙ ap not (ne_eqb (digit wrong t) 1 (λ h. omega arith))
 
-  pub judged-none : wrong ≡ 0 → Judged x Accepted l
+  pub judged-none : wrong ≡ 0 → Judged x (Ok tt) l
   judged-none z = record {
     verdict = sym (each-accepts _ (length x.states) _ (λ t b. errs-not t (ap (λ n. digit n t) z ∙ digit-zero t)));
     largest = d.largest;
   }
 
-  pub judged-at : (k : ℕ) → Lowest wrong k → Judged x (Refused (Initialisation (state k))) l
+  pub judged-at : (k : ℕ) → Lowest wrong k → Judged x (Err (Initialisation (state k))) l
   judged-at k m = record {
     verdict = sym (each-refuses _ (length x.states) _ k (lowest-full _ k (λ t b. errs-not t (m.below t b))) (d.inside k m.here) (d.errs k ∙ ap not (digit-has wrong k m.here)));
     largest = d.largest;
@@ -184,20 +196,24 @@ module _ {x : Tables} {wrong : ℕ} {l : List ℕ} (d : Settled x wrong l) where
 pub top-is : (x : Tables) (n top : ℕ) → n ≡ length x.variables → top ≡ full n → top ≡ top_of x
 top-is x n top e f = f ∙ ap full e
 
-module _ {s : List ℕ} {i : Image} {uses defs leads l : List ℕ} (d : EachState s i uses defs leads l) where
-  pub given-of : (n top : ℕ) → n ≡ length (tables_of s).variables → top ≡ full n → Given s i uses defs leads top
-  given-of n top f g =
-      let h = d.lending.filled in
-      record {
-        leading = record { rooted = d.lending.rooted; led = record { lead_row = h.lead_row; leads_size = h.leads_size } };
-        masks = record { use_row = h.use_row; def_row = h.def_row; uses_size = h.uses_size; defs_size = h.defs_size };
-        all = top-is (tables_of s) n top f g;
-      }
+module _ {s : List ℕ} {i : Image} {ms : List Masks} {l : List ℕ} (d : EachState s i ms l) where
+  pub given-of : (n top : ℕ) → n ≡ length (tables_of s).variables → top ≡ full n → Given s i ms top
+  given-of n top f g = record { rows = d.rows; all = top-is (tables_of s) n top f g }
 
   pub begun-staged : {m : List ℕ} → m ≡ begun (tables_of s) → Above (tables_of s) m
   begun-staged e =
-      let f = d.lending.rooted.formed in
+      let f = d.rows.lending.rooted.formed in
       rw e (begun-above (tables_of s) (parameters-in (tables_of s) f.entries) (omega (arith, (laid f.located).states_least, states-count f.located)))
 
-pub found_of : {x : Tables} {r : Verdict} {l : List ℕ} (was : List ℕ) (n : ℕ) → n ≡ length x.states → Judged x r l → Found x r was (l ++ drop n was)
-found_of was n e j = record { verdict = j.verdict; first = rw (e, j.largest) }
+-- the masks of the rows and none after them
+pub front : {s : List ℕ} {i : Image} {n : ℕ} {ms : List Masks} → Lending s i ms → n ≡ row_count i → Rows s i (take n ms)
+front {i = i} {ms = ms} d e = rw e (record {
+  lending = record {
+    rooted = d.rooted;
+    filled = record {
+      each = λ r h. get_or-take (row_count i) ms r (masks 0 0 0) h ∙ d.filled.each r h;
+      size = simp length-take (omega (arith, d.filled.size));
+    };
+  };
+  size = simp length-take (omega (arith, d.filled.size));
+})

@@ -16,8 +16,9 @@ use Rattle.model.proofs.Masks.{join-lt, bit-lt}
 use Rattle.image.specs.Located.{Rooted}
 use Rattle.image.proofs.Laid.{laid, states-count, rows-count}
 use Rattle.demands.proofs.Greatest.{Leads}
-use Rattle.masks.specs.Masks.{lead_as, lead_at}
-use Rattle.sets.specs.States.{Leading}
+use Rattle.masks.specs.declared.Masks.{Masks}
+use Rattle.masks.specs.Masks.{lead_as, lead_at, masks_in}
+use Rattle.sets.specs.States.{Rows}
 use Rattle.sets.proofs.Rows.{named-list}
 
 module _ (x : Tables) (ok : Formed x) where
@@ -93,15 +94,15 @@ module _ {s : List ℕ} {i : Image} (h : Rooted s i) (q : ℕ) (b : q < state_co
       let m = length (tables_of s).rows in
       omega (arith, rows-count h.formed.located, ltb-true n m (both_true (ltb n m) _ state-root).0)
 
--- the mask of a state's row
-module _ {s : List ℕ} {i : Image} {leads : List ℕ} (h : Leading s i leads) (q r : ℕ) (b : q < state_count i) (e : r ≡ get_or (tables_of s).states q none) where
-  pub lead-inside : r < length leads
-  lead-inside = omega (arith, state-inside h.rooted q b, h.led.leads_size)
+-- the masks of a state's row
+module _ {s : List ℕ} {i : Image} {ms : List Masks} (h : Rows s i ms) (q r : ℕ) (b : q < state_count i) (e : r ≡ get_or (tables_of s).states q none) where
+  pub lead-inside : r < length ms
+  lead-inside = omega (arith, state-inside h.lending.rooted q b, h.size)
 
-  pub lead_is : get_or leads r 0 ≡ targets (act (tables_of s) q)
+  pub lead_is : (masks_in ms r).leads ≡ targets (act (tables_of s) q)
   unfolding lead_at
   lead_is =
       let x = tables_of s in
       let n = get_or x.states q none in
-      ap (λ k. get_or leads k 0) e ∙ h.led.lead_row n (state-inside h.rooted q b)
-      ∙ ap (lead_as x n) (is-kind x action n (state-kind h.rooted q b)).1
+      ap (λ k. (masks_in ms k).leads) e ∙ ap (λ (m : Masks). m.leads) (h.lending.filled.each n (state-inside h.lending.rooted q b))
+      ∙ ap (lead_as x n) (is-kind x action n (state-kind h.lending.rooted q b)).1

@@ -1,4 +1,3 @@
-pub mod Forms
 pub mod Leading
 pub mod Tests
 pub mod Rest

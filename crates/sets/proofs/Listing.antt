@@ -2,11 +2,11 @@
 use mathlib.Core.{Path.◌≡◌, Path.refl, Path.sym, Path.ap, Path.◌∙◌, Path.subst, Logic.◌⊎◌, Logic.inl, Logic.inr, Logic.⊎_elim, Bool.Bool, Bool.true, List.List}
 use Prim.Native.Nat.{ℕ, ◌+◌, ◌%◌, ◌≤◌, ◌<◌}
 use native.Mathlib.Omega.{arith}
-use lib.{Bits.bit_and, Bits.bit_or, ListN.length}
+use lib.{Bits.bit_and, Bits.bit_or}
 use Rattle.model.specs.declared.{Image.Image, Fields.Fields}
 use Rattle.model.specs.Masks.{meet, join}
 use Rattle.model.specs.Image.{Tables, none, fields_of, tables_of}
-use Rattle.model.specs.Rows.{Kind, pattern, branch, arm, Field, Means, another, shape_of, means_at, pick_next, number_of_kind, is_kind, next_of}
+use Rattle.model.specs.Rows.{Kind, branch, arm, Field, Means, another, shape_of, means_at, pick_next, number_of_kind, is_kind, next_of}
 use Rattle.model.specs.Trees.{Pat, Action, Branches, no_branch, branch as a_branch, Arms, no_arm, arm as an_arm}
 use Rattle.model.specs.Decode.{pattern_at, action_at, branches_of, arms_of}
 use Rattle.model.specs.Binding.{def_of_pat}
@@ -15,11 +15,12 @@ use Rattle.model.specs.Largest.{Sub}
 use Rattle.model.proofs.Rows.{Named, Row, Formed, fields_for, lined, is-kind}
 use Rattle.model.proofs.Decode.{list_at-none, list_at-step}
 use Rattle.model.proofs.Masks.{sub_refl, sub_trans, meet_left, meet_right}
-use Rattle.masks.specs.Masks.{branches_at, arms_at}
-use Rattle.sets.specs.Flow.{Flow, flow, flow_branches, flow_arms, Walked, mask_at, Ready, ReadyList}
+use Rattle.masks.specs.declared.Masks.{Masks}
+use Rattle.masks.specs.Masks.{branches_at, arms_at, masks_in}
+use Rattle.sets.specs.Flow.{Flow, flow, flow_branches, flow_arms, Walked, Ready, ReadyList}
 use Rattle.sets.proofs.Tests.{meet-assoc, meet-sub, sub-meets}
 use Rattle.sets.proofs.Rest.{sets-after, Rest, Splits, rest_all, rest-on, rest-none}
-use Rattle.sets.proofs.Rows.{base-of, kind-inside, row_as, def-pattern, in-defs}
+use Rattle.sets.proofs.Rows.{base-of, kind-inside, row_as, def-pattern, defs}
 
 -- ---- the next row of a list
 next_field : (x : Tables) (r : ℕ) (m : Means) → means_at x r ≡ m
@@ -63,14 +64,14 @@ abbrev pub into : ℕ → Flow → Flow
 into e g = record { ends = meet e g.ends; fine = g.fine; jumps = g.jumps }
 
 -- of the list from row r on, the list from row here on is left; F says what a list is to give
-pub record Listing (k : Kind) (F : ℕ → Flow) (s : List ℕ) (i : Image) (uses defs : List ℕ) (r top : ℕ) (was l : List ℕ) (mv mv' : ℕ) (ok ok' : Bool) (here e : ℕ) : Type 0 where
-  pub ready : ReadyList k s i uses defs here top l
+pub record Listing (k : Kind) (F : ℕ → Flow) (s : List ℕ) (i : Image) (ms : List Masks) (r top : ℕ) (was l : List ℕ) (mv mv' : ℕ) (ok ok' : Bool) (here e : ℕ) : Type 0 where
+  pub ready : ReadyList k s i ms here top l
   pub rest : Rest (F r) (into e (F here)) was l mv mv' ok ok'
   pub inside : Sub e top
   pub low : (here + 1) % 65536 ≤ (r + 1) % 65536
 
-module _ {k : Kind} {s : List ℕ} {i : Image} {uses defs : List ℕ} {r top : ℕ} {l : List ℕ} (F : ℕ → Flow) where
-  listing-all : {mv : ℕ} {ok : Bool} → Sub (F r).ends top → ReadyList k s i uses defs r top l → Listing k F s i uses defs r top l l mv mv ok ok r top
+module _ {k : Kind} {s : List ℕ} {i : Image} {ms : List Masks} {r top : ℕ} {l : List ℕ} (F : ℕ → Flow) where
+  listing-all : {mv : ℕ} {ok : Bool} → Sub (F r).ends top → ReadyList k s i ms r top l → Listing k F s i ms r top l l mv mv ok ok r top
   listing-all {mv} {ok} h d = record {
     ready = d;
     rest = subst (λ n. Rest (F r) (record { ends = n; fine = (F r).fine; jumps = (F r).jumps }) l l mv mv ok ok) (sym (sub-meets top (F r).ends h)) (rest_all (F r) l mv ok);
@@ -78,7 +79,7 @@ module _ {k : Kind} {s : List ℕ} {i : Image} {uses defs : List ℕ} {r top : �
     low = omega arith;
   }
 
-  module _ {was : List ℕ} {mv mv' : ℕ} {ok ok' : Bool} {here e : ℕ} (d : Listing k F s i uses defs r top was l mv mv' ok ok' here e) where
+  module _ {was : List ℕ} {mv mv' : ℕ} {ok ok' : Bool} {here e : ℕ} (d : Listing k F s i ms r top was l mv mv' ok ok' here e) where
     -- a row of the list
     pub here-kind : (here ≡ none → ⊥) → is_kind (tables_of s) k here ≡ true
     here-kind f = ⊎_elim (λ p. absurd (f p)) (λ p. p) d.ready.first
@@ -95,7 +96,7 @@ module _ {k : Kind} {s : List ℕ} {i : Image} {uses defs : List ℕ} {r top : �
     -- one row on
     listing-on : {h : Flow} {n : ℕ} {now' : List ℕ} {mv'' : ℕ} {ok'' : Bool} {v : ℕ} → number_of_kind k < 10 → (here ≡ none → ⊥) → (n ≡ none) ⊎ Named (tables_of s) here k n
         → Splits (into e (F here)) h (into (meet e h.ends) (F n)) → Walked h l now' mv' mv'' ok' ok'' v
-        → Listing k F s i uses defs r top was now' mv mv'' ok ok'' n (meet e v)
+        → Listing k F s i ms r top was now' mv mv'' ok ok'' n (meet e v)
     listing-on {v = v} b f p q w = record {
       ready = record { lent = d.ready.lent; sets = sets-after d.ready.sets w; first = ⊎_elim (λ t. inl t) (λ t. inr t.kind) p };
       rest = rw w.ends (rest-on d.rest q w);
@@ -120,12 +121,12 @@ splits-branch top m e bs rest a z =
     subst (λ (b : Branches). Splits (into e (flow_branches top m b)) (flow top m a) (into (meet e (ends top m a)) (flow_branches top m rest))) (sym z)
     (record { ends = meet-assoc e (ends top m a) (ends_branches top m rest); fine = refl; jumps = λ q. refl })
 
-pub branches-all : {s : List ℕ} {i : Image} {uses defs : List ℕ} {r top : ℕ} {l : List ℕ} {mv : ℕ} {ok : Bool} (m : ℕ) → ReadyList branch s i uses defs r top l
-    → Listing branch (branching s top m) s i uses defs r top l l mv mv ok ok r top
+pub branches-all : {s : List ℕ} {i : Image} {ms : List Masks} {r top : ℕ} {l : List ℕ} {mv : ℕ} {ok : Bool} (m : ℕ) → ReadyList branch s i ms r top l
+    → Listing branch (branching s top m) s i ms r top l l mv mv ok ok r top
 branches-all {s} {r = r} {top = top} m d = listing-all (branching s top m) (branches-in top m (branches_at (tables_of s) r)) d
 
-module _ {s : List ℕ} {i : Image} {uses defs : List ℕ} {r top : ℕ} (m : ℕ) {was l : List ℕ} {mv mv' : ℕ} {ok ok' : Bool} {here e : ℕ}
-    (d : Listing branch (branching s top m) s i uses defs r top was l mv mv' ok ok' here e) where
+module _ {s : List ℕ} {i : Image} {ms : List Masks} {r top : ℕ} (m : ℕ) {was l : List ℕ} {mv mv' : ℕ} {ok ok' : Bool} {here e : ℕ}
+    (d : Listing branch (branching s top m) s i ms r top was l mv mv' ok ok' here e) where
   module _ {w : Fields} (reads : w ≡ fields_of (tables_of s) here) (f : here ≡ none → ⊥) where
     branch-kind : is_kind (tables_of s) branch here ≡ true
     branch-kind = here-kind (branching s top m) d f
@@ -133,7 +134,7 @@ module _ {s : List ℕ} {i : Image} {uses defs : List ℕ} {r top : ℕ} (m : �
     branch_row : Row (tables_of s) here w (another branch)
     branch_row = row_as (tables_of s) (base-of d.ready.lent).ok here w reads (another branch) (is-kind (tables_of s) branch here branch-kind)
 
-    pub branch-ready : Ready s i uses defs w.a top l
+    pub branch-ready : Ready s i ms w.a top l
     branch-ready = record { lent = d.ready.lent; sets = d.ready.sets; kind = branch_row.a.kind }
 
     pub branch-low : w.a + 1 < (r + 1) % 65536
@@ -143,7 +144,7 @@ module _ {s : List ℕ} {i : Image} {uses defs : List ℕ} {r top : ℕ} (m : �
     branch_less = next-less (branching s top m) d (omega arith) f branch_row.b
 
     pub branches-on : {now' : List ℕ} {mv'' : ℕ} {ok'' : Bool} {v : ℕ} → Walked (flow top m (action_at (tables_of s) w.a)) l now' mv' mv'' ok' ok'' v
-        → Listing branch (branching s top m) s i uses defs r top was now' mv mv'' ok ok'' w.b (bit_and e v)
+        → Listing branch (branching s top m) s i ms r top was now' mv mv'' ok ok'' w.b (bit_and e v)
     unfolding meet
     branches-on p =
         let x = tables_of s in
@@ -169,12 +170,12 @@ splits-arm top m e arms rest p a z =
     subst (λ (b : Arms). Splits (into e (flow_arms top m b)) (flow top k a) (into (meet e (ends top k a)) (flow_arms top m rest))) (sym z)
     (record { ends = meet-assoc e (ends top k a) (ends_arms top m rest); fine = refl; jumps = λ q. refl })
 
-pub arms-all : {s : List ℕ} {i : Image} {uses defs : List ℕ} {r top : ℕ} {l : List ℕ} {mv : ℕ} {ok : Bool} (m : ℕ) → ReadyList arm s i uses defs r top l
-    → Listing arm (arming s top m) s i uses defs r top l l mv mv ok ok r top
+pub arms-all : {s : List ℕ} {i : Image} {ms : List Masks} {r top : ℕ} {l : List ℕ} {mv : ℕ} {ok : Bool} (m : ℕ) → ReadyList arm s i ms r top l
+    → Listing arm (arming s top m) s i ms r top l l mv mv ok ok r top
 arms-all {s} {r = r} {top = top} m d = listing-all (arming s top m) (arms-in top m (arms_at (tables_of s) r)) d
 
-module _ {s : List ℕ} {i : Image} {uses defs : List ℕ} {r top : ℕ} (m : ℕ) {was l : List ℕ} {mv mv' : ℕ} {ok ok' : Bool} {here e : ℕ}
-    (d : Listing arm (arming s top m) s i uses defs r top was l mv mv' ok ok' here e) where
+module _ {s : List ℕ} {i : Image} {ms : List Masks} {r top : ℕ} (m : ℕ) {was l : List ℕ} {mv mv' : ℕ} {ok ok' : Bool} {here e : ℕ}
+    (d : Listing arm (arming s top m) s i ms r top was l mv mv' ok ok' here e) where
   module _ {w : Fields} (reads : w ≡ fields_of (tables_of s) here) (f : here ≡ none → ⊥) where
     arm-kind : is_kind (tables_of s) arm here ≡ true
     arm-kind = here-kind (arming s top m) d f
@@ -182,10 +183,7 @@ module _ {s : List ℕ} {i : Image} {uses defs : List ℕ} {r top : ℕ} (m : �
     arm-row : Row (tables_of s) here w (another arm)
     arm-row = row_as (tables_of s) (base-of d.ready.lent).ok here w reads (another arm) (is-kind (tables_of s) arm here arm-kind)
 
-    pub arm-masks : (w.a ≡ none) ⊎ (w.a < length defs)
-    arm-masks = in-defs (base-of d.ready.lent) pattern (omega arith) arm-row.a
-
-    pub arm-ready : Ready s i uses defs w.b top l
+    pub arm-ready : Ready s i ms w.b top l
     arm-ready = record { lent = d.ready.lent; sets = d.ready.sets; kind = arm-row.b.kind }
 
     pub arm_low : w.b + 1 < (r + 1) % 65536
@@ -194,13 +192,13 @@ module _ {s : List ℕ} {i : Image} {uses defs : List ℕ} {r top : ℕ} (m : �
     pub arm-less : (w.c + 1) % 65536 < (here + 1) % 65536
     arm-less = next-less (arming s top m) d (omega arith) f arm-row.c
 
-    pub arms-on : (t : ℕ) {now' : List ℕ} {mv'' : ℕ} {ok'' : Bool} {v : ℕ} → t ≡ mask_at defs w.a
-        → Walked (flow top (bit_or m t) (action_at (tables_of s) w.b)) l now' mv' mv'' ok' ok'' v
-        → Listing arm (arming s top m) s i uses defs r top was now' mv mv'' ok ok'' w.c (bit_and e v)
+    pub arms-on : (t : Masks) {now' : List ℕ} {mv'' : ℕ} {ok'' : Bool} {v : ℕ} → t ≡ masks_in ms w.a
+        → Walked (flow top (bit_or m t.defs) (action_at (tables_of s) w.b)) l now' mv' mv'' ok' ok'' v
+        → Listing arm (arming s top m) s i ms r top was now' mv mv'' ok ok'' w.c (bit_and e v)
     unfolding meet join
     arms-on t {now'} {mv''} {ok''} {v} z p =
         let x = tables_of s in
-        let k : bit_or m t ≡ join m (def_of_pat (pattern_at x w.a)) = ap (join m) (z ∙ def-pattern (base-of d.ready.lent) w.a arm-row.a.kind) in
+        let k : bit_or m t.defs ≡ join m (def_of_pat (pattern_at x w.a)) = ap (join m) (ap defs z ∙ def-pattern (base-of d.ready.lent) w.a arm-row.a.kind) in
         listing-on (arming s top m) d (omega arith) f arm-row.c
         (splits-arm top m e (arms_at x here) (arms_at x w.c) (pattern_at x w.a) (action_at x w.b) (arms_step x (base-of d.ready.lent).ok here w reads f arm-kind))
         (subst (λ n. Walked (flow top n (action_at x w.b)) l now' mv' mv'' ok' ok'' v) k p)

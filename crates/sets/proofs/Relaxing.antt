@@ -14,6 +14,7 @@ use Rattle.image.proofs.Laid.{states-count}
 use Rattle.demands.proofs.Targets.{jumps-away}
 use Rattle.demands.proofs.Greatest.{relax-above}
 use Rattle.sets.specs.Flow.{flow, Moved, Walked, Ready}
+use Rattle.masks.specs.declared.Masks.{Masks}
 use Rattle.sets.specs.States.{set_at, Above, Given}
 use Rattle.sets.proofs.Leading.{state-kind}
 use Rattle.sets.proofs.Tests.{meet-sub}
@@ -87,17 +88,17 @@ module _ {x : Tables} {t moved : ℕ} {was now' : List ℕ} (a : Above x was) (r
       go (no f) = not-led-at q (omega arith)
 
 -- ---- a walk of a state's action
-module _ {s : List ℕ} {i : Image} {uses defs leads : List ℕ} {top : ℕ} (g : Given s i uses defs leads top) where
+module _ {s : List ℕ} {i : Image} {ms : List Masks} {top : ℕ} (g : Given s i ms top) where
   module _ {l : List ℕ} (a : Above (tables_of s) l) where
     pub state-small : (t : ℕ) → t < length l → t < state_count i
-    state-small t b = omega (arith, a.size, states-count g.leading.rooted.formed.located)
+    state-small t b = omega (arith, a.size, states-count g.rows.lending.rooted.formed.located)
 
     module _ (t row : ℕ) (b : t < length l) (e : row ≡ get_or (tables_of s).states t none) where
-      pub state-ready : Ready s i uses defs row top l
+      pub state-ready : Ready s i ms row top l
       state-ready = record {
-        lent = record { formed = g.leading.rooted.formed; masks = g.masks };
+        lent = record { formed = g.rows.lending.rooted.formed; filled = g.rows.lending.filled; size = g.rows.size };
         sets = record { size = a.size; inside = λ q h. rw (g.all, ← near (tables_of s) l q h) (a.all q) };
-        kind = rw e (state-kind g.leading.rooted t (state-small t b));
+        kind = rw e (state-kind g.rows.lending.rooted t (state-small t b));
       }
 
       pub relaxed : {now' : List ℕ} {mv mv' : ℕ} {ok ok' : Bool} {n : ℕ} → Walked (flow top (get_or l t 0) (action_at (tables_of s) row)) l now' mv mv' ok ok' n

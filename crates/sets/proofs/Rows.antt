@@ -3,7 +3,7 @@ use mathlib.Core.{Path.◌≡◌, Path.refl, Path.sym, Path.ap, Path.◌∙◌, 
 use mathlib.Core.{Bool.true, Bool.false, List.List, List.map}
 use Prim.Native.Nat.{ℕ, suc, ◌+◌, ◌%◌, ◌≤◌, ◌<◌}
 use native.Mathlib.Omega.{arith}
-use lib.{ListN.length}
+use lib.{ListN.length, ListN.get_or-eq_default}
 use borrow.Author.Tests.{ne_eqb}
 use Rattle.model.specs.declared.{Image.Image, Fields.Fields}
 use Rattle.model.specs.Masks.{bit, union}
@@ -18,9 +18,9 @@ use Rattle.model.proofs.Codes.{code_of, one_code}
 use Rattle.model.proofs.Decode.{action_at-is, list_at-none}
 use Rattle.image.specs.Located.{RowOf, Formed as Wellformed}
 use Rattle.image.proofs.Laid.{laid, rows-count}
-use Rattle.masks.specs.Masks.{use_as, use_at, def_as, def_at, arms_at}
-use Rattle.sets.specs.Flow.{Masked, mask_at, Lent}
-use Rattle.sets.proofs.Forms.{mask-none, mask-some}
+use Rattle.masks.specs.declared.Masks.{Masks}
+use Rattle.masks.specs.Masks.{use_as, use_at, def_as, def_at, arms_at, masks, masks_at, masks_in}
+use Rattle.sets.specs.Flow.{Lent}
 
 -- ---- codes
 action-code : (c : ℕ) (a : ActionRow) → (shape_of c).means ≡ an_action a → c ≡ code_of (an_action a)
@@ -110,19 +110,28 @@ module _ (x : Tables) (ok : Formed x) (r : ℕ) (w : Fields) (reads : w ≡ fiel
   low-is k p q s t u v = let m = means-action k in low-code w.code m.0 m.1 p q s t u v
 
 -- ---- masks
+abbrev pub uses : Masks → ℕ
+uses m = m.uses
+
+abbrev pub defs : Masks → ℕ
+defs m = m.defs
+
 -- an image's rows and their masks, as the laws read them
-pub record Base (x : Tables) (uses defs : List ℕ) : Type 0 where
+pub record Base (x : Tables) (ms : List Masks) : Type 0 where
   pub ok : Formed x
-  pub masks : Masked x (length x.rows) uses defs
+  pub rows : (r : ℕ) → r < length x.rows → masks_in ms r ≡ masks_at x r
+  pub past : masks_in ms none ≡ masks 0 0 0
   pub few : length x.rows ≤ 2048
 
-pub base-of : {s : List ℕ} {i : Image} {uses defs : List ℕ} → Lent s i uses defs → Base (tables_of s) uses defs
-base-of {s} {i} {uses} {defs} l =
+pub base-of : {s : List ℕ} {i : Image} {ms : List Masks} → Lent s i ms → Base (tables_of s) ms
+base-of {s} {i} {ms} l =
     let n = rows-count l.formed.located in
+    let m = (laid l.formed.located).rows_most in
     record {
       ok = record { each = l.formed.rows };
-      masks = rw n l.masks;
-      few = omega (arith, (laid l.formed.located).rows_most);
+      rows = λ r h. l.filled.each r (omega arith);
+      past = get_or-eq_default ms (masks 0 0 0) (omega (arith, l.size));
+      few = omega arith;
     }
 
 module _ (x : Tables) where
@@ -133,93 +142,80 @@ module _ (x : Tables) where
 pub row-of-kind : {s : List ℕ} {i : Image} (k : Kind) (r : ℕ) → Wellformed s i → number_of_kind k < 10 → is_kind (tables_of s) k r ≡ true → RowOf s i r
 row-of-kind {s} k r f l e = record { located = f.located; inside = omega (arith, kind-inside (tables_of s) k r l e, rows-count f.located) }
 
-module _ {x : Tables} {uses defs : List ℕ} (b : Base x uses defs) where
-  use-at : (k : Kind) (r : ℕ) → number_of_kind k < 10 → is_kind x k r ≡ true → mask_at uses r ≡ use_at x r
-  use-at k r l e =
-      let h = kind-inside x k r l e in
-      mask-some uses r (λ p. omega (arith, b.few)) ∙ b.masks.use_row r h
+module _ {x : Tables} {ms : List Masks} (b : Base x ms) where
+  use-at : (k : Kind) (r : ℕ) → number_of_kind k < 10 → is_kind x k r ≡ true → (masks_in ms r).uses ≡ use_at x r
+  use-at k r l e = ap uses (b.rows r (kind-inside x k r l e))
 
-  def_at_lem : (k : Kind) (r : ℕ) → number_of_kind k < 10 → is_kind x k r ≡ true → mask_at defs r ≡ def_at x r
-  def_at_lem k r l e =
-      let h = kind-inside x k r l e in
-      mask-some defs r (λ p. omega (arith, b.few)) ∙ b.masks.def_row r h
+  def_at_lem : (k : Kind) (r : ℕ) → number_of_kind k < 10 → is_kind x k r ≡ true → (masks_in ms r).defs ≡ def_at x r
+  def_at_lem k r l e = ap defs (b.rows r (kind-inside x k r l e))
+
+  -- none has nothing
+  use-none : (r : ℕ) → r ≡ none → (masks_in ms r).uses ≡ 0
+  use-none r e = rw e (ap uses b.past)
+
+  def_none : (r : ℕ) → r ≡ none → (masks_in ms r).defs ≡ 0
+  def_none r e = rw e (ap defs b.past)
 
   module _ (r : ℕ) where
-    pub use-expression : is_kind x expression r ≡ true → mask_at uses r ≡ use_of_exp (expression_at x r)
+    pub use-expression : is_kind x expression r ≡ true → (masks_in ms r).uses ≡ use_of_exp (expression_at x r)
     unfolding use_at
     use-expression k = use-at expression r (omega arith) k ∙ ap (use_as x r) (is-kind x expression r k).1
 
-    pub def-expression : is_kind x expression r ≡ true → mask_at defs r ≡ 0
+    pub def-expression : is_kind x expression r ≡ true → (masks_in ms r).defs ≡ 0
     unfolding def_at
     def-expression k = def_at_lem expression r (omega arith) k ∙ ap (def_as x r) (is-kind x expression r k).1
 
-    pub def-pattern : is_kind x pattern r ≡ true → mask_at defs r ≡ def_of_pat (pattern_at x r)
+    pub def-pattern : is_kind x pattern r ≡ true → (masks_in ms r).defs ≡ def_of_pat (pattern_at x r)
     unfolding def_at
     def-pattern k = def_at_lem pattern r (omega arith) k ∙ ap (def_as x r) (is-kind x pattern r k).1
 
-    pub use-gets : is_kind x gets r ≡ true → mask_at uses r ≡ union (map (λ i. use_of_exp i.e) (gets_at x r))
+    pub use-gets : is_kind x gets r ≡ true → (masks_in ms r).uses ≡ union (map (λ i. use_of_exp i.e) (gets_at x r))
     unfolding use_at
     use-gets k = use-at gets r (omega arith) k ∙ ap (use_as x r) (is-kind x gets r k)
 
-    pub def-gets : is_kind x gets r ≡ true → mask_at defs r ≡ assigned (gets_at x r)
+    pub def-gets : is_kind x gets r ≡ true → (masks_in ms r).defs ≡ assigned (gets_at x r)
     unfolding def_at
     def-gets k = def_at_lem gets r (omega arith) k ∙ ap (def_as x r) (is-kind x gets r k)
 
-    pub def-of_types : is_kind x of_type r ≡ true → mask_at defs r ≡ chosen (of_types_at x r)
+    pub def-of_types : is_kind x of_type r ≡ true → (masks_in ms r).defs ≡ chosen (of_types_at x r)
     unfolding def_at
     def-of_types k = def_at_lem of_type r (omega arith) k ∙ ap (def_as x r) (is-kind x of_type r k)
 
-    pub def-items : is_kind x item r ≡ true → mask_at defs r ≡ dropped (variables_at x r)
+    pub def-items : is_kind x item r ≡ true → (masks_in ms r).defs ≡ dropped (variables_at x r)
     unfolding def_at
     def-items k = def_at_lem item r (omega arith) k ∙ ap (def_as x r) (is-kind x item r k)
 
-    pub use-range : is_kind x range r ≡ true → mask_at uses r ≡ 0
+    pub use-range : is_kind x range r ≡ true → (masks_in ms r).uses ≡ 0
     unfolding use_at
     use-range k = use-at range r (omega arith) k ∙ ap (use_as x r) (is-kind x range r k)
 
-    pub def-range : is_kind x range r ≡ true → mask_at defs r ≡ bit (fields_of x r).a
+    pub def-range : is_kind x range r ≡ true → (masks_in ms r).defs ≡ bit (fields_of x r).a
     unfolding def_at
     def-range k = def_at_lem range r (omega arith) k ∙ ap (def_as x r) (is-kind x range r k)
 
     -- of lists and conditions, none too
-    pub use-condition : {m : ℕ} → (r ≡ none) ⊎ Named x m expression r → mask_at uses r ≡ use_of_exp (condition_at x r)
+    pub use-condition : {m : ℕ} → (r ≡ none) ⊎ Named x m expression r → (masks_in ms r).uses ≡ use_of_exp (condition_at x r)
     unfolding condition_at use_of_exp
-    use-condition (inl e) = mask-none uses r e ∙ sym (ap (λ k. use_of_exp (condition_at x k)) e)
+    use-condition (inl e) = use-none r e ∙ sym (ap (λ k. use_of_exp (condition_at x k)) e)
     use-condition (inr n) =
         let h = kind-inside x expression r (omega arith) n.kind in
         use-expression n.kind
         ∙ ap (λ t. use_of_exp (elim t [ true ↦ always | false ↦ expression_at x r ])) (sym (ne_eqb r none (λ p. omega (arith, b.few))))
 
-    pub use-offers : {m : ℕ} → (r ≡ none) ⊎ Named x m offer r → mask_at uses r ≡ use_of_offers (offers_at x r)
+    pub use-offers : {m : ℕ} → (r ≡ none) ⊎ Named x m offer r → (masks_in ms r).uses ≡ use_of_offers (offers_at x r)
     unfolding use_at union
-    use-offers (inl e) = mask-none uses r e ∙ rw (e, list_at-none x b.ok)
+    use-offers (inl e) = use-none r e ∙ rw (e, list_at-none x b.ok)
     use-offers (inr n) = use-at offer r (omega arith) n.kind ∙ ap (use_as x r) (is-kind x offer r n.kind).1
 
-    pub def-offers : {m : ℕ} → (r ≡ none) ⊎ Named x m offer r → mask_at defs r ≡ def_of_offers (offers_at x r)
+    pub def-offers : {m : ℕ} → (r ≡ none) ⊎ Named x m offer r → (masks_in ms r).defs ≡ def_of_offers (offers_at x r)
     unfolding def_at union
-    def-offers (inl e) = mask-none defs r e ∙ rw (e, list_at-none x b.ok)
+    def-offers (inl e) = def_none r e ∙ rw (e, list_at-none x b.ok)
     def-offers (inr n) = def_at_lem offer r (omega arith) n.kind ∙ ap (def_as x r) (is-kind x offer r n.kind).1
 
-    pub use-arms : {m : ℕ} → (r ≡ none) ⊎ Named x m arm r → mask_at uses r ≡ use_of_arms (arms_at x r)
+    pub use-arms : {m : ℕ} → (r ≡ none) ⊎ Named x m arm r → (masks_in ms r).uses ≡ use_of_arms (arms_at x r)
     unfolding use_at use_of_arms arms_of
-    use-arms (inl e) = mask-none uses r e ∙ rw (e, list_at-none x b.ok)
+    use-arms (inl e) = use-none r e ∙ rw (e, list_at-none x b.ok)
     use-arms (inr n) = use-at arm r (omega arith) n.kind ∙ ap (use_as x r) (is-kind x arm r n.kind)
-
-  -- where masks are read
-  module _ {m n : ℕ} (k : Kind) (l : number_of_kind k < 10) where
-    pub in-uses : Named x m k n → (n ≡ none) ⊎ (n < length uses)
-    in-uses p = inr (omega (arith, kind-inside x k n l p.kind, b.masks.uses_size))
-
-    pub in-defs : Named x m k n → (n ≡ none) ⊎ (n < length defs)
-    in-defs p = inr (omega (arith, kind-inside x k n l p.kind, b.masks.defs_size))
-
-    pub some-uses : (n ≡ none) ⊎ Named x m k n → (n ≡ none) ⊎ (n < length uses)
-    some-uses (inl e) = inl e
-    some-uses (inr p) = in-uses p
-
-    pub some-defs : (n ≡ none) ⊎ Named x m k n → (n ≡ none) ⊎ (n < length defs)
-    some-defs (inl e) = inl e
-    some-defs (inr p) = in-defs p
 
   -- a list's first row counts less than the row that names it; none counts nothing
   pub list-low : {m n : ℕ} {k : Kind} → m < length x.rows → (n ≡ none) ⊎ Named x m k n → (n + 1) % 65536 ≤ m

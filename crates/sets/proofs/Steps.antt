@@ -1,6 +1,6 @@
 -- The walk by the code of a row: one law for each way of the walk's functions. Assumes nothing.
 use mathlib.Core.{Path.◌≡◌, Path.refl, Path.sym, Path.ap, Path.ap₂, Path.◌∙◌, Path.subst, Logic.◌⊎◌, Logic.inl, Logic.inr, Logic.⊎_elim, Bool.Bool, Bool.true, Bool.false, Bool.◌&&◌, List.List}
-use Prim.Native.Nat.{ℕ, ◌+◌, ◌*◌, ◌%◌, ◌^◌, ◌≤◌, ◌<◌}
+use Prim.Native.Nat.{ℕ, ◌+◌, ◌%◌, ◌≤◌, ◌<◌}
 use native.Mathlib.{Omega.arith, Decide.ℕ_discrete}
 use lib.{Bits.bit_or, Dec.eqb, IntN.ℤ, ListN.length, ListN.get_or, ListN.set, ListN.length-set, Seq.set-get_or, Seq.get_or-set_same, Seq.get_or-set_other}
 use borrow.Author.Tests.{ltb-true, eq-eqb, ne_eqb}
@@ -10,19 +10,19 @@ use Rattle.model.specs.Bytes.{signed}
 use Rattle.model.specs.Values.{half16}
 use Rattle.model.specs.Masks.{bit, meet, join, inside}
 use Rattle.model.specs.Image.{Tables, none, fields_of, tables_of}
-use Rattle.model.specs.Rows.{expression, range, action, branch, arm, is_to, is_then, is_select, is_case, is_while, is_for}
+use Rattle.model.specs.Rows.{action, branch, arm, is_to, is_then, is_select, is_case, is_while, is_for}
 use Rattle.model.specs.Trees.{Exp, Action, at, Act, to, then, select, case, while, for, Branches, Arms}
 use Rattle.model.specs.Decode.{grow_action, expression_at, action_at, for_of}
 use Rattle.model.specs.Binding.{use_of_exp}
 use Rattle.model.specs.Sets.{loop_set, ends, ends_act, fine, fine_act, fine_arms, jumps, jumps_act, use_of_arms}
 use Rattle.model.proofs.Rows.{Named}
-use Rattle.model.proofs.Masks.{bit-shift}
 use Rattle.image.proofs.Laid.{laid, states-count}
-use Rattle.masks.specs.Masks.{branches_at, arms_at}
-use Rattle.sets.specs.Flow.{Flow, flow, flow_branches, flow_arms, Walked, Plain, mask_at, Sets, Ready, ReadyAs, Single, Loop, ReadyList, Jump, PlainRow}
-use Rattle.sets.proofs.Tests.{meet-sub, join-none, and_assoc, and-loop, and-true, inside-none}
+use Rattle.masks.specs.declared.Masks.{Masks}
+use Rattle.masks.specs.Masks.{branches_at, arms_at, masks_in}
+use Rattle.sets.specs.Flow.{Flow, flow, flow_branches, flow_arms, Walked, Plain, Sets, Ready, ReadyAs, Single, Loop, ReadyList, Jump, PlainRow}
+use Rattle.sets.proofs.Tests.{meet-sub, join-none, and_assoc, and-loop, inside-none}
 use Rattle.sets.proofs.Rest.{no-moves, moves_set, sets-after, Rest, Splits, rest_all, rest-on, rest-last}
-use Rattle.sets.proofs.Rows.{named-list, Base, base-of, action-row, action-is, low-is, use-expression, def-expression, use-range, def-range, use-arms, in-uses, in-defs, some-uses, kind-inside, list-low}
+use Rattle.sets.proofs.Rows.{named-list, Base, base-of, action-row, action-is, low-is, use-expression, def-expression, use-range, def-range, use-arms, uses, defs, kind-inside, list-low}
 
 -- ---- an action by its tree
 abbrev flow_act : ℕ → ℕ → Act → Flow
@@ -44,10 +44,6 @@ do-plain {top = top} {l = l} {mv = mv} d p = record {
   met = λ q h. sym (ap (meet (get_or l q 0)) (p.jumps top q) ∙ meet-sub (get_or l q 0) top (d.inside q h));
   moves = no-moves l mv;
 }
-
--- no error is raised
-pub do-fine : {f : Flow} {was now' : List ℕ} {mv mv' : ℕ} {ok : Bool} {n : ℕ} → Walked f was now' mv mv' true true n → Walked f was now' mv mv' ok ok n
-do-fine {ok = ok} p = record { ends = p.ends; fine = sym (and-true ok) ∙ ap (λ t. ok && t) p.fine; size = p.size; met = p.met; moves = p.moves }
 
 -- ---- a jump
 module _ (top m q : ℕ) where
@@ -100,19 +96,19 @@ module _ {s : List ℕ} {i : Image} {r top : ℕ} {l : List ℕ} (j : Jump s i r
     pub still-jump : n ≡ get_or l w.a 0 → Walked (flow top m (action_at (tables_of s) r)) l l mv mv true true top
     still-jump g = jump-as (walked-still top m w.a jump-inside j.sets e mv g)
 
-    pub do-jump : (n ≡ get_or l w.a 0 → ⊥) → Walked (flow top m (action_at (tables_of s) r)) l (set l w.a n) mv (bit_or mv (1 * 2 ^ w.a % 2 ^ 64)) true true top
+    pub do-jump : (b : ℕ) → (n ≡ get_or l w.a 0 → ⊥) → b ≡ bit w.a → Walked (flow top m (action_at (tables_of s) r)) l (set l w.a n) mv (bit_or mv b) true true top
     unfolding join
-    do-jump f = rw (bit-shift w.a jump_small) (jump-as (walked_to top m w.a jump-inside j.sets e mv f))
+    do-jump b f h = rw h (jump-as (walked_to top m w.a jump-inside j.sets e mv f))
 
 -- ---- a sequence, followed in a loop
 -- of the walk of row r, entered with m, row here is left, to be entered with n
-pub record Walking (s : List ℕ) (i : Image) (uses defs : List ℕ) (r m top : ℕ) (was l : List ℕ) (mv mv' : ℕ) (ok ok' : Bool) (here n : ℕ) : Type 0 where
-  pub ready : Ready s i uses defs here top l
+pub record Walking (s : List ℕ) (i : Image) (ms : List Masks) (r m top : ℕ) (was l : List ℕ) (mv mv' : ℕ) (ok ok' : Bool) (here n : ℕ) : Type 0 where
+  pub ready : Ready s i ms here top l
   pub rest : Rest (flow top m (action_at (tables_of s) r)) (flow top n (action_at (tables_of s) here)) was l mv mv' ok ok'
   pub low : here ≤ r
 
-pub walking-all : {s : List ℕ} {i : Image} {uses defs : List ℕ} {r top : ℕ} {l : List ℕ} {mv : ℕ} {ok : Bool} (m : ℕ) → Ready s i uses defs r top l
-    → Walking s i uses defs r m top l l mv mv ok ok r m
+pub walking-all : {s : List ℕ} {i : Image} {ms : List Masks} {r top : ℕ} {l : List ℕ} {mv : ℕ} {ok : Bool} (m : ℕ) → Ready s i ms r top l
+    → Walking s i ms r m top l l mv mv ok ok r m
 walking-all m d = record { ready = d; rest = rest_all _ _ _ _; low = omega arith }
 
 splits-then : (x : Tables) (r top m : ℕ) (a b : Action) → action_at x r ≡ at r (then a b)
@@ -122,8 +118,8 @@ splits-then x r top m a b e =
     subst (λ (t : Action). Splits (flow top m t) (flow top m a) (flow top (ends top m a) b)) (sym e)
     (record { ends = refl; fine = refl; jumps = λ q. refl })
 
-module _ {s : List ℕ} {i : Image} {uses defs : List ℕ} {r m top : ℕ} {was mid : List ℕ} {mv mv' : ℕ} {ok ok' : Bool} {here n : ℕ}
-    (d : Walking s i uses defs r m top was mid mv mv' ok ok' here n) where
+module _ {s : List ℕ} {i : Image} {ms : List Masks} {r m top : ℕ} {was mid : List ℕ} {mv mv' : ℕ} {ok ok' : Bool} {here n : ℕ}
+    (d : Walking s i ms r m top was mid mv mv' ok ok' here n) where
   module _ {w : Fields} (reads : w ≡ fields_of (tables_of s) here) (c : (fields_of (tables_of s) here).code ≡ 54) where
     then-code : w.code ≡ 54
     then-code = ap (λ (v : Fields). v.code) reads ∙ c
@@ -134,7 +130,7 @@ module _ {s : List ℕ} {i : Image} {uses defs : List ℕ} {r m top : ℕ} {was 
     then-b : Named (tables_of s) here action w.b
     then-b = (action-row (tables_of s) (base-of d.ready.lent).ok here w reads is_then then-code).b
 
-    pub first-ready : Ready s i uses defs w.a top mid
+    pub first-ready : Ready s i ms w.a top mid
     first-ready = record { lent = d.ready.lent; sets = d.ready.sets; kind = then-a.kind }
 
     pub first-low : w.a < r
@@ -144,7 +140,7 @@ module _ {s : List ℕ} {i : Image} {uses defs : List ℕ} {r m top : ℕ} {was 
     second-low = then-b.below
 
     pub walking_on : {now' : List ℕ} {mv'' : ℕ} {ok'' : Bool} {k : ℕ} → Walked (flow top n (action_at (tables_of s) w.a)) mid now' mv' mv'' ok' ok'' k
-        → Walking s i uses defs r m top was now' mv mv'' ok ok'' w.b k
+        → Walking s i ms r m top was now' mv mv'' ok ok'' w.b k
     unfolding grow_action
     walking_on p = record {
       ready = record { lent = d.ready.lent; sets = sets-after d.ready.sets p; kind = then-b.kind };
@@ -216,7 +212,7 @@ module _ (top m k : ℕ) {was now' : List ℕ} {mv mv' : ℕ} {ok ok' : Bool} {n
       is : k ≡ ends_act top m (for x low high a)
       is = z ∙ sym (kept (join m (bit x.0)) (λ n. join (ends top n a) (bit x.0)))
 
-module _ {s : List ℕ} {i : Image} {uses defs : List ℕ} {r top : ℕ} {l : List ℕ} {w : Fields} (j : ReadyAs Loop s i uses defs r top l) (reads : w ≡ fields_of (tables_of s) r) where
+module _ {s : List ℕ} {i : Image} {ms : List Masks} {r top : ℕ} {l : List ℕ} {w : Fields} (j : ReadyAs Loop s i ms r top l) (reads : w ≡ fields_of (tables_of s) r) where
   loop-code : (w.code ≡ 59) ⊎ (w.code ≡ 60)
   loop-code = go (ℕ_discrete w.code 59)
     where
@@ -224,29 +220,23 @@ module _ {s : List ℕ} {i : Image} {uses defs : List ℕ} {r top : ℕ} {l : Li
       go (yes e) = inl e
       go (no f) = inr (omega (arith, ap (λ (v : Fields). v.code) reads, j.code.0, j.code.1))
 
-  bs : Base (tables_of s) uses defs
+  bs : Base (tables_of s) ms
   bs = base-of j.ready.lent
 
   body : Named (tables_of s) r action w.b
   body = ⊎_elim (λ c. (action-row (tables_of s) bs.ok r w reads is_while c).b) (λ c. (action-row (tables_of s) bs.ok r w reads is_for c).b) loop-code
 
-  pub loop-masks : ((w.a ≡ none) ⊎ (w.a < length uses)) × ((w.a ≡ none) ⊎ (w.a < length defs))
-  loop-masks = ⊎_elim
-      (λ c. let n = (action-row (tables_of s) bs.ok r w reads is_while c).a in (in-uses bs expression (omega arith) n, in-defs bs expression (omega arith) n))
-      (λ c. let n = (action-row (tables_of s) bs.ok r w reads is_for c).a in (in-uses bs range (omega arith) n, in-defs bs range (omega arith) n))
-      loop-code
-
-  pub body-ready : Ready s i uses defs w.b top l
+  pub body-ready : Ready s i ms w.b top l
   body-ready = record { lent = j.ready.lent; sets = j.ready.sets; kind = body.kind }
 
   pub body-low : w.b < r
   body-low = body.below
 
-  pub do-loop : (m d u : ℕ) (f g : Bool) {now' : List ℕ} {mv mv' : ℕ} {ok ok' : Bool} {n : ℕ} → d ≡ mask_at defs w.a → u ≡ mask_at uses w.a
-      → Walked (flow top (bit_or m d) (action_at (tables_of s) w.b)) l now' mv mv' ok ok' n → f ≡ inside u (bit_or m d) → g ≡ inside (bit_or m d) (bit_or n d)
-      → Walked (flow top m (action_at (tables_of s) r)) l now' mv mv' ok ((ok' && f) && g) (bit_or m d)
+  pub do-loop : (m : ℕ) (k : Masks) (f g : Bool) {now' : List ℕ} {mv mv' : ℕ} {ok ok' : Bool} {n : ℕ} → k ≡ masks_in ms w.a
+      → Walked (flow top (bit_or m k.defs) (action_at (tables_of s) w.b)) l now' mv mv' ok ok' n → f ≡ inside k.uses (bit_or m k.defs)
+      → g ≡ inside (bit_or m k.defs) (bit_or n k.defs) → Walked (flow top m (action_at (tables_of s) r)) l now' mv mv' ok ((ok' && f) && g) (bit_or m k.defs)
   unfolding grow_action join
-  do-loop m d u f g {now'} {mv} {mv'} {ok} {ok'} {n} e h p y z = ⊎_elim whiles fors loop-code
+  do-loop m head f g {now'} {mv} {mv'} {ok} {ok'} {n} e p y z = ⊎_elim whiles fors loop-code
     where
       x : Tables
       x = tables_of s
@@ -254,38 +244,32 @@ module _ {s : List ℕ} {i : Image} {uses defs : List ℕ} {r top : ℕ} {l : Li
       a : Action
       a = action_at x w.b
 
-      whiles : w.code ≡ 59 → Walked (flow top m (action_at x r)) l now' mv mv' ok ((ok' && f) && g) (bit_or m d)
+      whiles : w.code ≡ 59 → Walked (flow top m (action_at x r)) l now' mv mv' ok ((ok' && f) && g) (bit_or m head.defs)
       whiles c =
           let k = (action-row x bs.ok r w reads is_while c).a.kind in
-          let none' : d ≡ 0 = e ∙ def-expression bs w.a k in
+          let none' : head.defs ≡ 0 = ap defs e ∙ def-expression bs w.a k in
           walked_as x r top m (while (expression_at x w.a) a) (action-is x bs.ok r w reads is_while c)
-          (walked-while top m (bit_or m d) a f g p (expression_at x w.a) (rw none' (join-none m))
-          (y ∙ ap (λ t. inside t (bit_or m d)) (h ∙ use-expression bs w.a k)) (z ∙ ap (inside (bit_or m d)) (ap (join n) none' ∙ join-none n)))
+          (walked-while top m (bit_or m head.defs) a f g p (expression_at x w.a) (rw none' (join-none m))
+          (y ∙ ap (λ t. inside t (bit_or m head.defs)) (ap uses e ∙ use-expression bs w.a k)) (z ∙ ap (inside (bit_or m head.defs)) (ap (join n) none' ∙ join-none n)))
 
-      fors : w.code ≡ 60 → Walked (flow top m (action_at x r)) l now' mv mv' ok ((ok' && f) && g) (bit_or m d)
+      fors : w.code ≡ 60 → Walked (flow top m (action_at x r)) l now' mv mv' ok ((ok' && f) && g) (bit_or m head.defs)
       fors c =
           let k = (action-row x bs.ok r w reads is_for c).a.kind in
           let t = fields_of x w.a in
-          let one : d ≡ bit t.a = e ∙ def-range bs w.a k in
+          let one : head.defs ≡ bit t.a = ap defs e ∙ def-range bs w.a k in
           walked_as x r top m (for_of t a) (action-is x bs.ok r w reads is_for c)
-          (walked-for top m (bit_or m d) a f g p (variable t.a) (signed half16 t.b) (signed half16 t.c) (ap (join m) one)
-          (y ∙ ap (λ q. inside q (bit_or m d)) (h ∙ use-range bs w.a k) ∙ inside-none (bit_or m d)) (z ∙ ap (λ q. inside (bit_or m d) (join n q)) one))
+          (walked-for top m (bit_or m head.defs) a f g p (variable t.a) (signed half16 t.b) (signed half16 t.c) (ap (join m) one)
+          (y ∙ ap (λ q. inside q (bit_or m head.defs)) (ap uses e ∙ use-range bs w.a k) ∙ inside-none (bit_or m head.defs)) (z ∙ ap (λ q. inside (bit_or m head.defs) (join n q)) one))
 
 -- ---- an action that is no sequence
-module _ {s : List ℕ} {i : Image} {uses defs : List ℕ} {r top : ℕ} {l : List ℕ} {w : Fields} (j : ReadyAs Single s i uses defs r top l) (reads : w ≡ fields_of (tables_of s) r) where
-  base : Base (tables_of s) uses defs
+module _ {s : List ℕ} {i : Image} {ms : List Masks} {r top : ℕ} {l : List ℕ} {w : Fields} (j : ReadyAs Single s i ms r top l) (reads : w ≡ fields_of (tables_of s) r) where
+  base : Base (tables_of s) ms
   base = base-of j.ready.lent
 
   code_is : w.code ≡ (fields_of (tables_of s) r).code
   code_is = ap (λ (v : Fields). v.code) reads
 
-  pub as-jump : w.code ≡ 53 → Jump s i r top l
-  as-jump c = record { formed = j.ready.lent.formed; sets = j.ready.sets; kind = j.ready.kind; code = sym code_is ∙ c }
-
-  pub as-loop : Loop w.code → ReadyAs Loop s i uses defs r top l
-  as-loop c = record { ready = j.ready; code = (omega (arith, code_is, c.0), omega (arith, code_is, c.1)) }
-
-  pub as_plain : (w.code ≡ 53 → ⊥) → (w.code ≡ 55 → ⊥) → (w.code ≡ 56 → ⊥) → (Loop w.code → ⊥) → PlainRow s i uses defs r
+  pub as_plain : (w.code ≡ 53 → ⊥) → (w.code ≡ 55 → ⊥) → (w.code ≡ 56 → ⊥) → (Loop w.code → ⊥) → PlainRow s i ms r
   as_plain c e f g = record {
     lent = j.ready.lent;
     kind = j.ready.kind;
@@ -296,7 +280,7 @@ module _ {s : List ℕ} {i : Image} {uses defs : List ℕ} {r top : ℕ} {l : Li
     branches-named : (w.a ≡ none) ⊎ Named (tables_of s) r branch w.a
     branches-named = named-list (action-row (tables_of s) base.ok r w reads is_select c).a
 
-    pub branches-ready : ReadyList branch s i uses defs w.a top l
+    pub branches-ready : ReadyList branch s i ms w.a top l
     branches-ready = record { lent = j.ready.lent; sets = j.ready.sets; first = ⊎_elim (λ e. inl e) (λ n. inr n.kind) branches-named }
 
     pub branches-low : (w.a + 1) % 65536 ≤ r
@@ -313,24 +297,18 @@ module _ {s : List ℕ} {i : Image} {uses defs : List ℕ} {r top : ℕ} {l : Li
     arms-named : (w.b ≡ none) ⊎ Named (tables_of s) r arm w.b
     arms-named = named-list (action-row (tables_of s) base.ok r w reads is_case c).b
 
-    pub arms-ready : ReadyList arm s i uses defs w.b top l
+    pub arms-ready : ReadyList arm s i ms w.b top l
     arms-ready = record { lent = j.ready.lent; sets = j.ready.sets; first = ⊎_elim (λ e. inl e) (λ n. inr n.kind) arms-named }
 
     pub arms-low : (w.b + 1) % 65536 ≤ r
     arms-low = list-low base (kind-inside (tables_of s) action r (omega arith) j.ready.kind) arms-named
 
-    pub case-masks : ((w.a ≡ none) ⊎ (w.a < length uses)) × ((w.b ≡ none) ⊎ (w.b < length uses))
-    case-masks = (
-      in-uses base expression (omega arith) (action-row (tables_of s) base.ok r w reads is_case c).a,
-      some-uses base arm (omega arith) arms-named,
-    )
-
-    pub do-case : (m u t : ℕ) (f : Bool) {now' : List ℕ} {mv mv' : ℕ} {ok ok' : Bool} {n : ℕ} → Walked (flow_arms top m (arms_at (tables_of s) w.b)) l now' mv mv' (ok && f) ok' n
-        → u ≡ mask_at uses w.a → t ≡ mask_at uses w.b → f ≡ inside (bit_or u t) m
+    pub do-case : (m : ℕ) (u t : Masks) (f : Bool) {now' : List ℕ} {mv mv' : ℕ} {ok ok' : Bool} {n : ℕ} → Walked (flow_arms top m (arms_at (tables_of s) w.b)) l now' mv mv' (ok && f) ok' n
+        → u ≡ masks_in ms w.a → t ≡ masks_in ms w.b → f ≡ inside (bit_or u.uses t.uses) m
         → Walked (flow top m (action_at (tables_of s) r)) l now' mv mv' ok ok' n
     unfolding grow_action join
     do-case m u t f p e g h =
         let x = tables_of s in
         walked_as x r top m (case (expression_at x w.a) (arms_at x w.b)) (action-is x base.ok r w reads is_case c)
         (walked-case top m _ _ f
-        (h ∙ ap (λ n. inside n m) (ap₂ join (e ∙ use-expression base w.a (action-row x base.ok r w reads is_case c).a.kind) (g ∙ use-arms base w.b arms-named))) p)
+        (h ∙ ap (λ n. inside n m) (ap₂ join (ap uses e ∙ use-expression base w.a (action-row x base.ok r w reads is_case c).a.kind) (ap uses g ∙ use-arms base w.b arms-named))) p)

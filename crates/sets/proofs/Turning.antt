@@ -1,11 +1,11 @@
 -- The masks of one turn: the states due, those walked, those that err. Assumes nothing.
-use mathlib.Core.{Path.◌≡◌, Path.ap, Bool.Bool, Bool.true, Bool.false}
-use Prim.Native.Nat.{ℕ, ◌+◌, ◌-◌, ◌*◌, ◌%◌, ◌^◌, ◌≤◌, ◌<◌, min}
+use mathlib.Core.{Path.◌≡◌, Bool.Bool, Bool.true, Bool.false}
+use Prim.Native.Nat.{ℕ, ◌+◌, ◌-◌, ◌^◌, ◌≤◌, ◌<◌, min}
 use native.Mathlib.Omega.{arith}
 use lib.Bits.{bit_and, bit_or}
 use borrow.Author.Tests.{eq-eqb, ne_eqb}
 use Rattle.model.specs.Masks.{digit, Has, bit, meet, join, without}
-use Rattle.model.proofs.Masks.{digit-le, digit-meet, digit-join, digit-without, digit-bit-here, digit-bit-there, bit-lt, meet-lt, join-lt, without-le, bit-shift, and-not}
+use Rattle.model.proofs.Masks.{digit-le, digit-meet, digit-join, digit-without, digit-bit-here, digit-bit-there, bit-lt, meet-lt, join-lt, without-le}
 use Rattle.sets.specs.States.{Marked}
 
 -- one turn of the loop: state s is walked; led has the states that it jumps to, moved those whose sets changed
@@ -55,22 +55,11 @@ module _ (s led moved due walked : ℕ) (l : s < 64) (u : due < 2 ^ 64) (v : wal
       c : ℕ
       c = without led w
 
-  -- the code's form
-  walked-is : bit_or walked (1 * 2 ^ s % 2 ^ 64) ≡ join walked (bit s)
-  unfolding join
-  walked-is = ap (bit_or walked) (bit-shift s l)
-
-  abbrev pub due-as : ℕ
-  due-as =
-      bit_or (bit_or (bit_and due (2 ^ 64 - 1 - 1 * 2 ^ s % 2 ^ 64)) (bit_and led moved))
-      (bit_and led (2 ^ 64 - 1 - bit_or walked (1 * 2 ^ s % 2 ^ 64)))
-
-  due-is : due-as ≡ next_due s led moved due (join walked (bit s))
+  -- as the code finds it
+  pub turn-as : {b rest fresh : ℕ} → b ≡ bit s → rest ≡ without due b → fresh ≡ without led (bit_or walked b) → Has due s
+      → Turn s led moved due walked (bit_or (bit_or rest (bit_and led moved)) fresh) (bit_or walked b)
   unfolding next_due join meet
-  due-is = rw (bit-shift s l, and-not 64 due (bit s) u (bit-lt 64 s l), and-not 64 led (bit_or walked (bit s)) k (join-lt 64 walked (bit s) v (bit-lt 64 s l)))
-
-  pub turn-as : Has due s → Turn s led moved due walked due-as (bit_or walked (1 * 2 ^ s % 2 ^ 64))
-  turn-as h = rw (due-is, walked-is) (turn h)
+  turn-as e f g h = rw (f, g, e) (turn h)
 
 -- ---- the mask of the states that err
 fine-without : (s wrong : ℕ) → Marked s true wrong (without wrong (bit s))
@@ -85,10 +74,10 @@ wrong-join s wrong = record {
   there = λ q f. omega (arith, digit-join wrong (bit s) q, digit-bit-there s q f);
 }
 
-module _ (s wrong : ℕ) (f : Bool) (l : s < 64) where
-  pub marked-fine : wrong < 2 ^ 64 → f ≡ true → Marked s f wrong (bit_and wrong (2 ^ 64 - 1 - 1 * 2 ^ s % 2 ^ 64))
-  marked-fine h e = rw (e, bit-shift s l, and-not 64 wrong (bit s) h (bit-lt 64 s l)) (fine-without s wrong)
+module _ (s wrong : ℕ) (f : Bool) {b : ℕ} (e : b ≡ bit s) where
+  pub marked-fine : {n : ℕ} → n ≡ without wrong b → f ≡ true → Marked s f wrong n
+  marked-fine h t = rw (t, h, e) (fine-without s wrong)
 
-  pub marked-wrong : f ≡ false → Marked s f wrong (bit_or wrong (1 * 2 ^ s % 2 ^ 64))
+  pub marked-wrong : f ≡ false → Marked s f wrong (bit_or wrong b)
   unfolding join
-  marked-wrong e = rw (e, bit-shift s l) (wrong-join s wrong)
+  marked-wrong t = rw (t, e) (wrong-join s wrong)

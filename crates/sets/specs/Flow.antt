@@ -1,8 +1,8 @@
 -- A walk of rows: what it is asked, and what it gives, the sets of Figure 7 with what is carried to each state met in place.
 -- Assumes nothing.
-use mathlib.Core.{Path.◌≡◌, Logic.◌⊎◌, Bool.Bool, Bool.true, Bool.false, Bool.◌&&◌, List.List}
+use mathlib.Core.{Path.◌≡◌, Logic.◌⊎◌, Bool.Bool, Bool.true, Bool.◌&&◌, List.List}
 use Rattle.std.specs.Prelude.{ℕ, ◌≤◌, ◌<◌}
-use lib.{Dec.eqb, ListN.length, ListN.get_or}
+use lib.{ListN.length, ListN.get_or}
 use Rattle.model.specs.declared.Image.{Image}
 use Rattle.model.specs.Masks.{digit, Has, meet, join}
 use Rattle.model.specs.Image.{Tables, none, fields_of, tables_of, row_count}
@@ -12,7 +12,8 @@ use Rattle.model.specs.Decode.{action_at}
 use Rattle.model.specs.Sets.{ends, ends_branches, ends_arms, fine, fine_branches, fine_arms, jumps, jumps_branches, jumps_arms}
 use Rattle.model.specs.Largest.{Sub}
 use Rattle.image.specs.Located.{Formed}
-use Rattle.masks.specs.Masks.{use_at, def_at}
+use Rattle.masks.specs.declared.Masks.{Masks}
+use Rattle.masks.specs.Masks.{Filled}
 
 -- Figure 7's sets: where the tree ends, at the jumps to each state; and whether no error is raised
 pub record Flow : Type 0 where
@@ -55,21 +56,11 @@ pub record Plain (x : Tables) (row m : ℕ) (ok ok' : Bool) (e : ℕ) : Type 0 w
   pub fine : (top : ℕ) → ok' ≡ (ok && fine top m (action_at x row))
   pub jumps : (top q : ℕ) → jumps q top m (action_at x row) ≡ top
 
--- the masks of rows below n that a walk reads
-pub record Masked (x : Tables) (n : ℕ) (uses defs : List ℕ) : Type 0 where
-  pub use_row : (r : ℕ) → r < n → get_or uses r 0 ≡ use_at x r
-  pub def_row : (r : ℕ) → r < n → get_or defs r 0 ≡ def_at x r
-  pub uses_size : n ≤ length uses
-  pub defs_size : n ≤ length defs
-
--- a row's mask; nothing for no row
-unfoldable pub mask_at : List ℕ → ℕ → ℕ
-mask_at masks r = elim (eqb r none) [ true ↦ 0 | false ↦ get_or masks r 0 ]
-
--- what every walk is lent: an image free of 1 to 5, its masks
-pub record Lent (s : List ℕ) (i : Image) (uses defs : List ℕ) : Type 0 where
+-- what every walk is lent: an image free of 1 to 5, the masks of its rows and nothing after them, so that none is past the end
+pub record Lent (s : List ℕ) (i : Image) (ms : List Masks) : Type 0 where
   pub formed : Formed s i
-  pub masks : Masked (tables_of s) (row_count i) uses defs
+  pub filled : Filled (tables_of s) (row_count i) ms
+  pub size : length ms ≡ row_count i
 
 -- and a set for each state, inside the top
 pub record Sets (s : List ℕ) (top : ℕ) (out : List ℕ) : Type 0 where
@@ -77,14 +68,14 @@ pub record Sets (s : List ℕ) (top : ℕ) (out : List ℕ) : Type 0 where
   pub inside : (q : ℕ) → q < length out → Sub (get_or out q 0) top
 
 -- a row that is an action
-pub record Ready (s : List ℕ) (i : Image) (uses defs : List ℕ) (row top : ℕ) (out : List ℕ) : Type 0 where
-  pub lent : Lent s i uses defs
+pub record Ready (s : List ℕ) (i : Image) (ms : List Masks) (row top : ℕ) (out : List ℕ) : Type 0 where
+  pub lent : Lent s i ms
   pub sets : Sets s top out
   pub kind : is_kind (tables_of s) action row ≡ true
 
 -- and its code is such
-pub record ReadyAs (P : ℕ → Type 0) (s : List ℕ) (i : Image) (uses defs : List ℕ) (row top : ℕ) (out : List ℕ) : Type 0 where
-  pub ready : Ready s i uses defs row top out
+pub record ReadyAs (P : ℕ → Type 0) (s : List ℕ) (i : Image) (ms : List Masks) (row top : ℕ) (out : List ℕ) : Type 0 where
+  pub ready : Ready s i ms row top out
   pub code : P (fields_of (tables_of s) row).code
 
 abbrev pub Single : ℕ → Type 0
@@ -94,8 +85,8 @@ abbrev pub Loop : ℕ → Type 0
 Loop c = (59 ≤ c) × (c ≤ 60)
 
 -- none, or the first row of a list of a kind
-pub record ReadyList (k : Kind) (s : List ℕ) (i : Image) (uses defs : List ℕ) (row top : ℕ) (out : List ℕ) : Type 0 where
-  pub lent : Lent s i uses defs
+pub record ReadyList (k : Kind) (s : List ℕ) (i : Image) (ms : List Masks) (row top : ℕ) (out : List ℕ) : Type 0 where
+  pub lent : Lent s i ms
   pub sets : Sets s top out
   pub first : (row ≡ none) ⊎ (is_kind (tables_of s) k row ≡ true)
 
@@ -107,7 +98,7 @@ pub record Jump (s : List ℕ) (i : Image) (row top : ℕ) (out : List ℕ) : Ty
   pub code : (fields_of (tables_of s) row).code ≡ 53
 
 -- a row that is an action without parts and no jump
-pub record PlainRow (s : List ℕ) (i : Image) (uses defs : List ℕ) (row : ℕ) : Type 0 where
-  pub lent : Lent s i uses defs
+pub record PlainRow (s : List ℕ) (i : Image) (ms : List Masks) (row : ℕ) : Type 0 where
+  pub lent : Lent s i ms
   pub kind : is_kind (tables_of s) action row ≡ true
   pub code : (fields_of (tables_of s) row).code < 53

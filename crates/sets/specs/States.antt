@@ -1,24 +1,25 @@
 -- The states: those reached, their sets, the verdict on them. Assumes nothing.
 use mathlib.Core.{Path.◌≡◌, Bool.Bool, Bool.not, List.List, List.◌++◌}
 use Rattle.std.specs.Prelude.{ℕ, ◌≤◌, ◌<◌, length, get_or, drop}
-use Rattle.model.specs.declared.{Image.Image, Verdict.Verdict, Refusal.TheVariants.Initialisation}
-use Rattle.model.specs.Answers.{state, each}
+use Rattle.model.specs.declared.{Image.Image, Refusal.TheVariants.Initialisation}
+use Rattle.model.specs.Answers.{state, each, Verdict}
 use Rattle.model.specs.Image.{Tables, tables_of, row_count}
 use Rattle.model.specs.Masks.{digit, Has, has}
 use Rattle.model.specs.Binding.{parameters_of}
 use Rattle.model.specs.Largest.{top_of, Sub, Fits, reached_of, sets_of, initialised}
 use Rattle.image.specs.Located.{Formed, Rooted}
-use Rattle.masks.specs.Masks.{lead_at, Filled}
-use Rattle.sets.specs.Flow.{Masked}
+use Rattle.masks.specs.declared.Masks.{Masks}
+use Rattle.masks.specs.Masks.{Filled}
 
--- the states that rows lead to, of the rows below n
-pub record Led (x : Tables) (n : ℕ) (leads : List ℕ) : Type 0 where
-  pub lead_row : (r : ℕ) → r < n → get_or leads r 0 ≡ lead_at x r
-  pub leads_size : n ≤ length leads
-
-pub record Leading (s : List ℕ) (i : Image) (leads : List ℕ) : Type 0 where
+-- an image free of 1 to 6, its masks
+pub record Lending (s : List ℕ) (i : Image) (ms : List Masks) : Type 0 where
   pub rooted : Rooted s i
-  pub led : Led (tables_of s) (row_count i) leads
+  pub filled : Filled (tables_of s) (row_count i) ms
+
+-- and no masks after those of its rows
+pub record Rows (s : List ℕ) (i : Image) (ms : List Masks) : Type 0 where
+  pub lending : Lending s i ms
+  pub size : length ms ≡ row_count i
 
 -- ---- the sets
 -- a state's set; past the last state all variables, as the definitions read it
@@ -39,13 +40,12 @@ pub record Above (x : Tables) (sets : List ℕ) : Type 0 where
   pub above : (o : ℕ → ℕ) → Fits x o → (s : ℕ) → Sub (o s) (set_at x sets s)
 
 -- what is lent to find the sets: an image free of 1 to 6, its masks, the mask of all variables
-pub record Given (s : List ℕ) (i : Image) (uses defs leads : List ℕ) (top : ℕ) : Type 0 where
-  pub leading : Leading s i leads
-  pub masks : Masked (tables_of s) (row_count i) uses defs
+pub record Given (s : List ℕ) (i : Image) (ms : List Masks) (top : ℕ) : Type 0 where
+  pub rows : Rows s i ms
   pub all : top ≡ top_of (tables_of s)
 
-pub record Staged (s : List ℕ) (i : Image) (uses defs leads : List ℕ) (top : ℕ) (sets : List ℕ) : Type 0 where
-  pub given : Given s i uses defs leads top
+pub record Staged (s : List ℕ) (i : Image) (ms : List Masks) (top : ℕ) (sets : List ℕ) : Type 0 where
+  pub given : Given s i ms top
   pub stage : Above (tables_of s) sets
 
 -- the lowest in a mask
@@ -74,19 +74,14 @@ pub record Judged (x : Tables) (r : Verdict) (sets : List ℕ) : Type 0 where
   pub verdict : r ≡ initialisation x
   pub largest : sets ≡ sets_of x
 
--- an image free of 1 to 6, its masks
-pub record Lending (s : List ℕ) (i : Image) (uses defs leads : List ℕ) : Type 0 where
-  pub rooted : Rooted s i
-  pub filled : Filled (tables_of s) (row_count i) uses defs leads
-
--- and a set for each state
-pub record EachState (s : List ℕ) (i : Image) (uses defs leads sets : List ℕ) : Type 0 where
-  pub lending : Lending s i uses defs leads
+-- the masks of its rows and a set for each state
+pub record EachState (s : List ℕ) (i : Image) (ms : List Masks) (sets : List ℕ) : Type 0 where
+  pub rows : Rows s i ms
   pub size : length sets ≡ length (tables_of s).states
 
--- or more
-pub record Room (s : List ℕ) (i : Image) (uses defs leads sets : List ℕ) : Type 0 where
-  pub lending : Lending s i uses defs leads
+-- its masks, and room for a set for each state
+pub record Room (s : List ℕ) (i : Image) (ms : List Masks) (sets : List ℕ) : Type 0 where
+  pub lending : Lending s i ms
   pub room : length (tables_of s).states ≤ length sets
 
 -- the verdict, and the largest sets in the first entries

@@ -1,56 +1,55 @@
 // The walk of an action's rows (Figure 7): what holds where it ends, and what its jumps carry to each state.
-ghost use Rattle.std.specs.Prelude.{◌≡◌, ◌⊎◌, true, ◌<◌, length};
-ghost use Rattle.model.specs.Image.{none, tables_of};
+ghost use Rattle.std.specs.Prelude.{true};
+ghost use Rattle.image.specs.Located.{tables};
 ghost use Rattle.model.specs.Rows.{branch, arm};
 ghost use Rattle.model.specs.Decode.{action_at};
 ghost use Rattle.masks.specs.Masks.{branches_at, arms_at};
-ghost use Rattle.sets.specs.Flow.{mask_at, flow, flow_branches, flow_arms, Walked, Plain, Ready, ReadyAs, Single, Loop, ReadyList, Jump, PlainRow};
+ghost use Rattle.sets.specs.Flow.{flow, flow_branches, flow_arms, Walked, Plain, Ready, ReadyAs, Single, Loop, ReadyList, Jump, PlainRow};
 
-use image::{code, fields};
-use masks::inside;
+use image::Automaton;
+use masks::{Masks, bit, inside, masks_in, without};
 use model::Image;
 
-// A row's mask; nothing for no row.
-fn mask_at(masks: &[u64], row: u16) -> u64
-    requires { (row ≡ none) ⊎ (row < length masks.now) }
-    ensures { result ≡ mask_at masks.now row }
-{
-    if row == Image::NONE {
-        return 0;
-    }
-    masks[row as usize]
+// What every walk reads: an image, the masks of its rows, the mask of all variables. It's handed on by a reference, which
+// takes little of the stack.
+#[derive(Clone, Copy)]
+pub struct Lent<'a> {
+    pub x: Automaton<'a>,
+    pub masks: &'a [Masks],
+    pub top: u64,
+}
+
+// What a walk finds on its way: the states whose sets changed; whether all that it read was defined.
+#[derive(Clone, Copy)]
+pub struct Findings {
+    pub moved: u64,
+    pub fine: bool,
 }
 
 // 48 to 52: what holds after the action; fine turns false where it reads what isn't defined.
-fn plain(
-    image: &[u8],
-    i: Image,
-    uses: &[u64],
-    defs: &[u64],
-    row: u16,
-    entering: u64,
-    fine: &mut bool,
-) -> u64
-    requires { PlainRow image.now i uses.now defs.now row }
-    ensures { Plain (tables_of image.now) row entering fine.old fine.new result }
+fn plain(lent: &Lent, row: u16, entering: u64, fine: &mut bool) -> u64
+    requires { PlainRow lent.now.x.image.now lent.now.x.trailer lent.now.masks.now row }
+    ensures { Plain (tables lent.now.x) row entering fine.old fine.new result }
 {
-    let w = fields(image, i, row);
+    let w = lent.x.fields(row);
     let c = w.code;
     match c {
         49 => {
-            let after = entering | mask_at(defs, w.a);
-            *fine = *fine & inside(mask_at(uses, w.a), entering);
+            let m = masks_in(lent.masks, w.a);
+            let after = entering | m.defs;
+            *fine = *fine & inside(m.uses, entering);
             after
         }
         50 => {
-            let after = entering | mask_at(defs, w.a);
-            *fine = *fine & inside(mask_at(uses, w.b), after);
+            let after = entering | masks_in(lent.masks, w.a).defs;
+            *fine = *fine & inside(masks_in(lent.masks, w.b).uses, after);
             after
         }
-        51 => entering & !mask_at(defs, w.a),
+        51 => without(entering, masks_in(lent.masks, w.a).defs),
         52 => {
-            let after = entering | mask_at(defs, w.b);
-            *fine = *fine & inside(mask_at(uses, w.b), after);
+            let m = masks_in(lent.masks, w.b);
+            let after = entering | m.defs;
+            *fine = *fine & inside(m.uses, after);
             after
         }
         _ => entering,
@@ -58,136 +57,83 @@ fn plain(
 }
 
 // A jump carries its set to a state, which is added to moved if its set changes; code after it is entered with all variables.
-fn jump(
-    image: &[u8],
-    i: Image,
-    row: u16,
-    entering: u64,
-    top: u64,
-    out: &mut [u64],
-    moved: &mut u64,
-) -> u64
-    requires { Jump image.now i row top out.old }
-    ensures { Walked (flow top entering (action_at (tables_of image.now) row)) out.old out.new moved.old moved.new true true result }
+fn jump(lent: &Lent, row: u16, entering: u64, out: &mut [u64], moved: &mut u64) -> u64
+    requires { Jump lent.now.x.image.now lent.now.x.trailer row lent.now.top out.old }
+    ensures { Walked (flow lent.now.top entering (action_at (tables lent.now.x) row)) out.old out.new moved.old moved.new true true result }
 {
-    let w = fields(image, i, row);
+    let w = lent.x.fields(row);
     let q = w.a as usize;
     let old = out[q];
     let new = old & entering;
     if new == old {
-        return top;
+        return lent.top;
     }
     out[q] = new;
-    *moved = *moved | (1 << w.a);
-    top
+    *moved = *moved | bit(w.a);
+    lent.top
 }
 
 // What the action of a row leaves where it ends. What it carries to each state is met in place, the states whose sets change
-// are added to moved, an error turns fine false. A sequence is followed in a loop, so that only its first part takes stack;
-// a slice read is handed on by a reference to it, which takes half of what the slice takes.
+// are added to moved, an error turns fine false. A sequence is followed in a loop, so that only its first part takes stack.
 #[cycle(walking)]
-pub fn walk(
-    image: &&[u8],
-    i: Image,
-    uses: &&[u64],
-    defs: &&[u64],
-    row: u16,
-    entering: u64,
-    top: u64,
-    out: &mut [u64],
-    moved: &mut u64,
-    fine: &mut bool,
-) -> u64
-    requires { Ready image.now.now i uses.now.now defs.now.now row top out.old }
-    ensures { Walked (flow top entering (action_at (tables_of image.now.now) row)) out.old out.new moved.old moved.new fine.old fine.new result }
+pub fn walk(lent: &Lent, row: u16, entering: u64, out: &mut [u64], found: &mut Findings) -> u64
+    requires { Ready lent.now.x.image.now lent.now.x.trailer lent.now.masks.now row lent.now.top out.old }
+    ensures { Walked (flow lent.now.top entering (action_at (tables lent.now.x) row)) out.old out.new found.old.moved found.new.moved found.old.fine found.new.fine result }
 {
     let mut here = row;
     let mut set = entering;
-    while code(*image, i, here) == 54 {
-        let w = fields(*image, i, here);
-        set = walk_first(image, i, uses, defs, w.a, set, top, out, moved, fine);
+    while lent.x.code(here) == 54 {
+        let w = lent.x.fields(here);
+        set = walk_first(lent, w.a, set, out, found);
         here = w.b;
     }
-    walk_single(image, i, uses, defs, here, set, top, out, moved, fine)
+    walk_single(lent, here, set, out, found)
 }
 
 // The same of a sequence's first part: one without parts takes no stack.
 #[cycle(walking)]
-fn walk_first(
-    image: &&[u8],
-    i: Image,
-    uses: &&[u64],
-    defs: &&[u64],
-    row: u16,
-    entering: u64,
-    top: u64,
-    out: &mut [u64],
-    moved: &mut u64,
-    fine: &mut bool,
-) -> u64
-    requires { Ready image.now.now i uses.now.now defs.now.now row top out.old }
-    ensures { Walked (flow top entering (action_at (tables_of image.now.now) row)) out.old out.new moved.old moved.new fine.old fine.new result }
+fn walk_first(lent: &Lent, row: u16, entering: u64, out: &mut [u64], found: &mut Findings) -> u64
+    requires { Ready lent.now.x.image.now lent.now.x.trailer lent.now.masks.now row lent.now.top out.old }
+    ensures { Walked (flow lent.now.top entering (action_at (tables lent.now.x) row)) out.old out.new found.old.moved found.new.moved found.old.fine found.new.fine result }
 {
-    if code(*image, i, row) < 53 {
-        return plain(*image, i, *uses, *defs, row, entering, fine);
+    if lent.x.code(row) < 53 {
+        return plain(lent, row, entering, &mut found.fine);
     }
-    walk(image, i, uses, defs, row, entering, top, out, moved, fine)
+    walk(lent, row, entering, out, found)
 }
 
 // The same of an action that is no sequence.
 #[cycle(walking)]
-fn walk_single(
-    image: &&[u8],
-    i: Image,
-    uses: &&[u64],
-    defs: &&[u64],
-    row: u16,
-    entering: u64,
-    top: u64,
-    out: &mut [u64],
-    moved: &mut u64,
-    fine: &mut bool,
-) -> u64
-    requires { ReadyAs Single image.now.now i uses.now.now defs.now.now row top out.old }
-    ensures { Walked (flow top entering (action_at (tables_of image.now.now) row)) out.old out.new moved.old moved.new fine.old fine.new result }
+fn walk_single(lent: &Lent, row: u16, entering: u64, out: &mut [u64], found: &mut Findings) -> u64
+    requires { ReadyAs Single lent.now.x.image.now lent.now.x.trailer lent.now.masks.now row lent.now.top out.old }
+    ensures { Walked (flow lent.now.top entering (action_at (tables lent.now.x) row)) out.old out.new found.old.moved found.new.moved found.old.fine found.new.fine result }
 {
-    let w = fields(*image, i, row);
+    let w = lent.x.fields(row);
     let c = w.code;
     match c {
-        53 => jump(*image, i, row, entering, top, out, moved),
-        55 => walk_branches(image, i, uses, defs, w.a, entering, top, out, moved, fine),
+        53 => jump(lent, row, entering, out, &mut found.moved),
+        55 => walk_branches(lent, w.a, entering, out, found),
         56 => {
-            let used = mask_at(*uses, w.a) | mask_at(*uses, w.b);
-            *fine = *fine & inside(used, entering);
-            walk_arms(image, i, uses, defs, w.b, entering, top, out, moved, fine)
+            let used = masks_in(lent.masks, w.a).uses | masks_in(lent.masks, w.b).uses;
+            found.fine = found.fine & inside(used, entering);
+            walk_arms(lent, w.b, entering, out, found)
         }
-        59 | 60 => walk_loop(image, i, uses, defs, row, entering, top, out, moved, fine),
-        _ => plain(*image, i, *uses, *defs, row, entering, fine),
+        59 | 60 => walk_loop(lent, row, entering, out, found),
+        _ => plain(lent, row, entering, &mut found.fine),
     }
 }
 
 // The same of a list of branches.
 #[cycle(walking)]
-fn walk_branches(
-    image: &&[u8],
-    i: Image,
-    uses: &&[u64],
-    defs: &&[u64],
-    row: u16,
-    entering: u64,
-    top: u64,
-    out: &mut [u64],
-    moved: &mut u64,
-    fine: &mut bool,
-) -> u64
-    requires { ReadyList branch image.now.now i uses.now.now defs.now.now row top out.old }
-    ensures { Walked (flow_branches top entering (branches_at (tables_of image.now.now) row)) out.old out.new moved.old moved.new fine.old fine.new result }
+fn walk_branches(lent: &Lent, row: u16, entering: u64, out: &mut [u64], found: &mut Findings) -> u64
+    requires { ReadyList branch lent.now.x.image.now lent.now.x.trailer lent.now.masks.now row lent.now.top out.old }
+    ensures { Walked (flow_branches lent.now.top entering (branches_at (tables lent.now.x) row)) out.old out.new found.old.moved found.new.moved found.old.fine found.new.fine result }
 {
     let mut here = row;
-    let mut ends = top;
+    let mut ends = lent.top;
     while here != Image::NONE {
-        let w = fields(*image, i, here);
-        ends = ends & walk(image, i, uses, defs, w.a, entering, top, out, moved, fine);
+        let w = lent.x.fields(here);
+        ends = ends & walk(lent, w.a, entering, out, found);
         here = w.b;
     }
     ends
@@ -195,27 +141,16 @@ fn walk_branches(
 
 // The same of a list of arms, each entered with its pattern's variables.
 #[cycle(walking)]
-fn walk_arms(
-    image: &&[u8],
-    i: Image,
-    uses: &&[u64],
-    defs: &&[u64],
-    row: u16,
-    entering: u64,
-    top: u64,
-    out: &mut [u64],
-    moved: &mut u64,
-    fine: &mut bool,
-) -> u64
-    requires { ReadyList arm image.now.now i uses.now.now defs.now.now row top out.old }
-    ensures { Walked (flow_arms top entering (arms_at (tables_of image.now.now) row)) out.old out.new moved.old moved.new fine.old fine.new result }
+fn walk_arms(lent: &Lent, row: u16, entering: u64, out: &mut [u64], found: &mut Findings) -> u64
+    requires { ReadyList arm lent.now.x.image.now lent.now.x.trailer lent.now.masks.now row lent.now.top out.old }
+    ensures { Walked (flow_arms lent.now.top entering (arms_at (tables lent.now.x) row)) out.old out.new found.old.moved found.new.moved found.old.fine found.new.fine result }
 {
     let mut here = row;
-    let mut ends = top;
+    let mut ends = lent.top;
     while here != Image::NONE {
-        let w = fields(*image, i, here);
-        let entered = entering | mask_at(*defs, w.a);
-        ends = ends & walk(image, i, uses, defs, w.b, entered, top, out, moved, fine);
+        let w = lent.x.fields(here);
+        let entered = entering | masks_in(lent.masks, w.a).defs;
+        ends = ends & walk(lent, w.b, entered, out, found);
         here = w.c;
     }
     ends
@@ -223,25 +158,14 @@ fn walk_arms(
 
 // The same of a loop, which keeps its entering set. A while's condition defines nothing, a for's range reads nothing.
 #[cycle(walking)]
-fn walk_loop(
-    image: &&[u8],
-    i: Image,
-    uses: &&[u64],
-    defs: &&[u64],
-    row: u16,
-    entering: u64,
-    top: u64,
-    out: &mut [u64],
-    moved: &mut u64,
-    fine: &mut bool,
-) -> u64
-    requires { ReadyAs Loop image.now.now i uses.now.now defs.now.now row top out.old }
-    ensures { Walked (flow top entering (action_at (tables_of image.now.now) row)) out.old out.new moved.old moved.new fine.old fine.new result }
+fn walk_loop(lent: &Lent, row: u16, entering: u64, out: &mut [u64], found: &mut Findings) -> u64
+    requires { ReadyAs Loop lent.now.x.image.now lent.now.x.trailer lent.now.masks.now row lent.now.top out.old }
+    ensures { Walked (flow lent.now.top entering (action_at (tables lent.now.x) row)) out.old out.new found.old.moved found.new.moved found.old.fine found.new.fine result }
 {
-    let w = fields(*image, i, row);
-    let variable = mask_at(*defs, w.a);
-    let kept = entering | variable;
-    let ends = walk(image, i, uses, defs, w.b, kept, top, out, moved, fine);
-    *fine = *fine & inside(mask_at(*uses, w.a), kept) & inside(kept, ends | variable);
+    let w = lent.x.fields(row);
+    let head = masks_in(lent.masks, w.a);
+    let kept = entering | head.defs;
+    let ends = walk(lent, w.b, kept, out, found);
+    found.fine = found.fine & inside(head.uses, kept) & inside(kept, ends | head.defs);
     kept
 }

@@ -3,16 +3,15 @@
 
 mod flow;
 
-ghost use Rattle.std.specs.Prelude.{◌≡◌, ◌≤◌, ◌<◌};
-ghost use Rattle.model.specs.Masks.{full};
-ghost use Rattle.model.specs.Image.{tables_of};
+ghost use Rattle.image.specs.Located.{tables};
+ghost use Rattle.std.specs.Prelude.{◌≡◌, ◌<◌};
 ghost use Rattle.model.specs.Largest.{begun};
 ghost use Rattle.sets.specs.States.{Lowest, Marked, Beginning, Staged, Settled, Judged, EachState, Room, Found};
 
-use flow::walk;
-use image::{state_count, state_row, variable_count};
-use masks::parameters;
-use model::{Image, Refusal, State, Verdict};
+use flow::{Findings, Lent, walk};
+use image::Automaton;
+use masks::{Masks, bit, full, parameters, without};
+use model::{Refusal, State};
 
 // The lowest in the mask.
 fn lowest(m: u64) -> u16
@@ -22,28 +21,13 @@ fn lowest(m: u64) -> u16
     u64::trailing_zeros(m) as u16
 }
 
-// All below n.
-fn all(n: u16) -> u64
-    requires { n ≤ 64 }
-    ensures { result ≡ full n }
-{
-    if n == 64 {
-        return !0;
-    }
-    (1 << n) - 1
-}
-
 // At first the parameters at state 0, all variables elsewhere.
-fn begin(image: &[u8], i: Image, top: u64, sets: &mut [u64])
-    requires { Beginning image.now i top sets.old }
-    ensures { sets.new ≡ begun (tables_of image.now) }
+fn begin(x: &Automaton, top: u64, sets: &mut [u64])
+    requires { Beginning x.now.image.now x.now.trailer top sets.old }
+    ensures { sets.new ≡ begun (tables x.now) }
 {
-    let mut s: usize = 0;
-    while s < sets.len() {
-        sets[s] = top;
-        s += 1;
-    }
-    sets[0] = parameters(image, i);
+    sets.fill(top);
+    sets[0] = parameters(x);
 }
 
 // The mask of the states that err, once s is judged.
@@ -51,81 +35,59 @@ fn mark(wrong: u64, s: u16, fine: bool) -> u64
     requires { s < 64 }
     ensures { Marked s fine wrong result }
 {
-    let bit: u64 = 1 << s;
     if fine {
-        return wrong & !bit;
+        return without(wrong, bit(s));
     }
-    wrong | bit
+    wrong | bit(s)
 }
 
 // Walks until no state is due: the largest sets that fit, and the mask of the states that err with them. A state is due when
 // a walked state first jumps to it, and again when its set changes.
-fn settle(
-    image: &[u8],
-    i: Image,
-    uses: &[u64],
-    defs: &[u64],
-    leads: &[u64],
-    top: u64,
-    sets: &mut [u64],
-) -> u64
-    requires { Staged image.now i uses.now defs.now leads.now top sets.old }
-    ensures { Settled (tables_of image.now) result sets.new }
+fn settle(lent: &Lent, sets: &mut [u64]) -> u64
+    requires { Staged lent.now.x.image.now lent.now.x.trailer lent.now.masks.now lent.now.top sets.old }
+    ensures { Settled (tables lent.now.x) result sets.new }
 {
     let mut due: u64 = 1;
     let mut walked: u64 = 0;
     let mut wrong: u64 = 0;
     while due != 0 {
         let s = lowest(due);
-        let row = state_row(image, i, s);
-        let led = leads[row as usize];
+        let row = lent.x.state_row(s);
+        let led = lent.masks[row as usize].leads;
         let set = sets[s as usize];
-        let mut moved: u64 = 0;
-        let mut fine = true;
-        walk(
-            &image, i, &uses, &defs, row, set, top, sets, &mut moved, &mut fine,
-        );
-        let bit: u64 = 1 << s;
-        walked = walked | bit;
-        due = (due & !bit) | (led & moved) | (led & !walked);
-        wrong = mark(wrong, s, fine);
+        let mut found = Findings {
+            moved: 0,
+            fine: true,
+        };
+        walk(lent, row, set, sets, &mut found);
+        let here = bit(s);
+        walked = walked | here;
+        due = without(due, here) | (led & found.moved) | without(led, walked);
+        wrong = mark(wrong, s, found.fine);
     }
     wrong
 }
 
-// The sets and 11, with a set for each state.
-fn initialisation(
-    image: &[u8],
-    i: Image,
-    uses: &[u64],
-    defs: &[u64],
-    leads: &[u64],
-    sets: &mut [u64],
-) -> Verdict
-    requires { EachState image.now i uses.now defs.now leads.now sets.old }
-    ensures { Judged (tables_of image.now) result sets.new }
+// The sets and 11, with the masks of every row and no more, and a set for each state.
+fn initialisation(x: &Automaton, masks: &[Masks], sets: &mut [u64]) -> Result<(), Refusal>
+    requires { EachState x.now.image.now x.now.trailer masks.now sets.old }
+    ensures { Judged (tables x.now) result sets.new }
 {
-    let top = all(variable_count(image, i));
-    begin(image, i, top, sets);
-    let wrong = settle(image, i, uses, defs, leads, top, sets);
+    let top = full(x.variable_count());
+    begin(x, top, sets);
+    let wrong = settle(&Lent { x: *x, masks, top }, sets);
     if wrong == 0 {
-        return Verdict::Accepted;
+        return Ok(());
     }
-    Verdict::Refused(Refusal::Initialisation(State(lowest(wrong))))
+    Err(Refusal::Initialisation(State(lowest(wrong))))
 }
 
 // The largest sets that fit, in the first entries lent, and 11 judged with them.
-pub fn sets_verdict(
-    image: &[u8],
-    i: Image,
-    uses: &[u64],
-    defs: &[u64],
-    leads: &[u64],
-    sets: &mut [u64],
-) -> Verdict
-    requires { Room image.now i uses.now defs.now leads.now sets.old }
-    ensures { Found (tables_of image.now) result sets.old sets.new }
+pub fn sets_verdict(x: &Automaton, masks: &[Masks], sets: &mut [u64]) -> Result<(), Refusal>
+    requires { Room x.now.image.now x.now.trailer masks.now sets.old }
+    ensures { Found (tables x.now) result sets.old sets.new }
 {
-    let n = state_count(image, i) as usize;
-    initialisation(image, i, uses, defs, leads, &mut sets[..n])
+    let rows = x.row_count() as usize;
+    let states = x.state_count() as usize;
+    initialisation(x, &masks[..rows], &mut sets[..states])
 }

@@ -21,7 +21,7 @@ use Rattle.actions.specs.Items.{Items, Assigned as Stored, assigns}
 use Rattle.actions.specs.State.{state_of, result_of, Silent}
 use Rattle.actions.proofs.Done.{assign-items, assign-ends, assign-fails}
 use Rattle.told.proofs.Coded.{tells-ends, told-by}
-use Rattle.told.specs.Told.{run_of, outcome_of, ran_of, Tells}
+use Rattle.told.specs.Told.{outcome_of, ran_of, Tells}
 use Rattle.simple.specs.Simple.{Simple, Worded, Assigning, Assigned}
 
 module _ {s : List ℕ} {rows r : ℕ} {m : List ℤ} (h : Runs action s rows r m) {w : Fields} (e : w ≡ fields_of (tables_of s) r) where
@@ -154,15 +154,15 @@ assigned-as n {j = j} e d = record {
   does = λ run. record { does = λ values. ap (λ (u : Outcome). result_of (record { out = u; run = run }) j values) e.outcome ∙ (d run).does values };
 }
 
-pub result_as : (n : ℕ) {o : Outcome} (l : List ℕ) (j v : List ℤ) {q : Res} → outcome_of n ≡ o → result_of (record { out = o; run = run_of l }) j v ≡ q → result_of (ran_of n l) j v ≡ q
-result_as n l j v e d = ap (λ (u : Outcome). result_of (record { out = u; run = run_of l }) j v) e ∙ d
+pub result_as : (n : ℕ) {o : Outcome} (run : Run) (j v : List ℤ) {q : Res} → outcome_of n ≡ o → result_of (record { out = o; run = run }) j v ≡ q → result_of (ran_of n run) j v ≡ q
+result_as n run j v e d = ap (λ (u : Outcome). result_of (record { out = u; run = run }) j v) e ∙ d
 
--- its outcome told, its state put back
-pub worded-told : (s : List ℕ) (r : ℕ) (script : List ℕ) {q : Ran} (n : ℕ) (l k : List ℕ) {now : Run} (m j v u : List ℤ) → outcome_of n ≡ q.out → run_of k ≡ q.run → now ≡ run_of l
-    → result_of q j u ≡ exec_act (tables_of s) (act_of (action_at (tables_of s) r)) script r (state_of now m v)
-    → result_of (ran_of n k) j u ≡ exec_act (tables_of s) (act_of (action_at (tables_of s) r)) script r (state_of (run_of l) m v)
-worded-told s r script n l k m j v u e f g h =
-    (λ i. result_of (record { out = e i; run = f i }) j u) ∙ h ∙ ap (λ (run : Run). exec_act (tables_of s) (act_of (action_at (tables_of s) r)) script r (state_of run m v)) g
+-- its outcome told
+pub worded-told : (s : List ℕ) (r : ℕ) (script : List ℕ) (q : Ran) (n : ℕ) (run : Run) (m j v u : List ℤ) → outcome_of n ≡ q.out
+    → result_of q j u ≡ exec_act (tables_of s) (act_of (action_at (tables_of s) r)) script r (state_of run m v)
+    → result_of (ran_of n q.run) j u ≡ exec_act (tables_of s) (act_of (action_at (tables_of s) r)) script r (state_of run m v)
+worded-told s r script q n run m j v u e h =
+    ap (λ (o : Outcome). result_of (record { out = o; run = q.run }) j u) e ∙ h
 
 -- ---- 49
 module _ {s : List ℕ} {rows r f : ℕ} {m : List ℤ} (h : Assigning s rows r f m) where

@@ -106,12 +106,12 @@ pub record Going (s : List ℕ) (first : ℕ) (any : Bool) (values at : ℕ) : T
   pub each : (k : ℕ) → k < 64 → (has values k || some_catches (pos k) (arms_at (tables_of s) at)) ≡ some_catches (pos k) (arms_at (tables_of s) first)
 
 pub begun : {s : List ℕ} {i : Image} {first : ℕ} → OrNone s i arm first → Going s first false 0 first
-begun h = record { row = h.row; all = refl; each = λ k l. rw (has-zero k) }
+begun h = record { row = h.named; all = refl; each = λ k l. rw (has-zero k) }
 
 -- a row that isn't none is an arm's
 pub arm-here : {s : List ℕ} {i : Image} {first values at : ℕ} {any : Bool} → located.Formed s i → Going s first any values at → (at ≡ none → ⊥)
     → OfKind s i arm at
-arm-here h g f = some-row (record { formed = h; row = g.row }) f
+arm-here h g f = some-row (record { formed = h; named = g.row }) f
 
 pub turned : {s : List ℕ} {i : Image} {first values at v : ℕ} {any b : Bool} {w : Fields} → OfKind s i arm at
     → w ≡ fields_of (tables_of s) at → CaughtAs (pattern_at (tables_of s) w.a) b v → Going s first any values at

@@ -8,15 +8,16 @@ use Rattle.model.specs.declared.Image.{Image}
 use Rattle.model.specs.Image.{Tables, none, tables_of, size_of}
 use Rattle.model.specs.Rows.{next_of, list_up_to}
 use Rattle.model.specs.Trees.{Pat, any, bind, equals, guarded, Action, Arms, no_arm, arm}
-use Rattle.model.specs.Decode.{arms_of, list_at, action_at}
+use Rattle.model.specs.Decode.{expression_at, arms_of, list_at, action_at}
 use Rattle.model.specs.Masks.{digit, full}
+use Rattle.model.specs.Typing.{type_of_exp}
 use Rattle.model.specs.Speech.{catches, some_catches, each_caught, exhaustive}
 use Rattle.model.proofs.Rows.{both_true, Formed}
 use Rattle.model.proofs.Decode.{list_at-none}
 use Rattle.model.proofs.Values.{same-eq}
 use Rattle.model.proofs.Masks.{digit-full, digit-full-out, inside-sub, sub-inside, has-digit, digit-has, digit-le}
 use Rattle.speech.specs.Filled.{arms_at}
-use Rattle.speech.specs.Case.{CaseOf, TypeIs, CaughtBy, all_in, exhaustive_at}
+use Rattle.speech.specs.Case.{CaseOf, CaughtBy, all_in, exhaustive_at}
 
 -- two tests that pass together
 same_test : (a b : Bool) → (a ≡ true → b ≡ true) → (b ≡ true → a ≡ true) → a ≡ b
@@ -146,11 +147,11 @@ module _ {s : List ℕ} {i : Image} {e first : ℕ} (h : CaseOf s i e first) {an
   unfolding exhaustive
   exhausted-all a = rw (← g.all, a)
 
-  pub exhausted-int : {t : ℕ} → any ≡ false → TypeIs s i e t → t ≡ 1 → Is false
+  pub exhausted-int : {t : ℕ} → any ≡ false → t ≡ type_of_exp x (expression_at x e) → t ≡ 1 → Is false
   unfolding exhaustive
-  exhausted-int a b q = rw (← g.all, a, ← b.is, q)
+  exhausted-int a b q = rw (← g.all, a, ← b, q)
 
-  pub exhausted-each : {t n : ℕ} {b : Bool} → any ≡ false → TypeIs s i e t → (t ≡ 1 → ⊥) → n ≡ size_of x t → b ≡ all_in values n → Is b
+  pub exhausted-each : {t n : ℕ} {b : Bool} → any ≡ false → t ≡ type_of_exp x (expression_at x e) → (t ≡ 1 → ⊥) → n ≡ size_of x t → b ≡ all_in values n → Is b
   unfolding exhaustive
   exhausted-each {t} {n} a k q m r =
-      rw (r, m, ← g.all, a, ← k.is, ne_eqb t 1 q) (all-is g (size_of x t) (rw (count-rows x (action_at x) (list_at x first)) h.few))
+      rw (r, m, ← g.all, a, ← k, ne_eqb t 1 q) (all-is g (size_of x t) (rw (count-rows x (action_at x) (list_at x first)) h.few))

@@ -1,14 +1,13 @@
 -- An expression's row: its type, and whether it is the constant true. Assumes nothing.
 use mathlib.Core.{Path.◌≡◌, Path.refl, Path.sym, Path.ap, Path.◌∙◌}
-use mathlib.Core.{Bool.Bool, Bool.true, Bool.false, Bool.cond, Bool.◌&&◌, List.List, List.[], List.◌∷◌}
-use Prim.Native.Nat.{ℕ, zero, suc, ◌≤◌, ◌<◌}
+use mathlib.Core.{Bool.Bool, Bool.true, Bool.false, Bool.◌&&◌, List.List, List.[], List.◌∷◌}
+use Prim.Native.Nat.{ℕ, zero, suc, ◌<◌}
 use native.Mathlib.Omega.{arith}
 use lib.{Dec.eqb, Dec.leb, Dec.ltb, IntN.pos, ListN.length, ListN.get_or}
 use borrow.Author.Tests.{ltb-true, eqb-true, eqb-false, ne_eqb}
 use Rattle.model.specs.declared.{Image.Image, Fields.Fields}
-use Rattle.model.specs.Answers.{variable}
-use Rattle.model.specs.Image.{Tables, Entry, none, bool, int, tables_of, sizes_fit, entries_fit, entries_right, entry_of, fields_of}
-use Rattle.model.specs.Rows.{expression, Not, Negate, And, Or, Plus, Minus, Times, Quotient, Remainder, Equal, Less, AtMost, logic, arithmetic, comparison, ExpressionRow, is_variable, is_constant, is_unary, is_binary, an_expression, codes, lookup, shape_of, means_at}
+use Rattle.model.specs.Image.{Tables, Entry, none, bool, tables_of, type_count, sizes_fit, entries_fit, entries_right, fields_of}
+use Rattle.model.specs.Rows.{expression, Not, Negate, logic, arithmetic, comparison, ExpressionRow, is_variable, is_constant, is_unary, is_binary, an_expression, codes, lookup, shape_of, means_at}
 use Rattle.model.specs.Trees.{Exp}
 use Rattle.model.specs.Decode.{constant_of, grow_expression, expression_at, condition_at}
 use Rattle.model.specs.Typing.{type_of_exp}
@@ -16,9 +15,8 @@ use Rattle.model.specs.Values.{same}
 use Rattle.model.specs.Speech.{is_always}
 use Rattle.model.proofs.Rows.{both_true, Formed, row_is, is-kind}
 use Rattle.model.proofs.Decode.{expression_at-is}
-use Rattle.image.specs.Located.{VariableOf}
-use Rattle.image.proofs.Laid.{laid, types-count, variables-count}
-use Rattle.speech.specs.Case.{OfKind, TypeIs}
+use Rattle.image.proofs.Laid.{laid, types-count}
+use Rattle.typing.specs.Rules.{OfKind}
 use Rattle.model.proofs.Codes.{code_of, means, code-of}
 use Rattle.speech.proofs.Places.{rows-formed}
 
@@ -53,24 +51,6 @@ not_constant x f w is_constant n = absurd (n refl)
 not_constant x f w (is_unary o) n = refl
 not_constant x f w (is_binary o) n = refl
 
-type-as : (x : Tables) (f : ℕ → Exp) (w : Fields) (e : ExpressionRow) (c : ℕ) → code_of (an_expression e) ≡ c → (c ≡ 1 → ⊥) → (c ≡ 2 → ⊥)
-    → cond (leb 19 c && leb c 24) int bool ≡ type_of_exp x (grow_expression x f w (an_expression e))
-unfolding grow_expression type_of_exp
-type-as x f w is_variable c q n m = absurd (n (sym q))
-type-as x f w is_constant c q n m = absurd (m (sym q))
-type-as x f w (is_unary Not) c q n m = rw (← q)
-type-as x f w (is_unary Negate) c q n m = rw (← q)
-type-as x f w (is_binary (logic And)) c q n m = rw (← q)
-type-as x f w (is_binary (logic Or)) c q n m = rw (← q)
-type-as x f w (is_binary (arithmetic Plus)) c q n m = rw (← q)
-type-as x f w (is_binary (arithmetic Minus)) c q n m = rw (← q)
-type-as x f w (is_binary (arithmetic Times)) c q n m = rw (← q)
-type-as x f w (is_binary (arithmetic Quotient)) c q n m = rw (← q)
-type-as x f w (is_binary (arithmetic Remainder)) c q n m = rw (← q)
-type-as x f w (is_binary (comparison Equal)) c q n m = rw (← q)
-type-as x f w (is_binary (comparison Less)) c q n m = rw (← q)
-type-as x f w (is_binary (comparison AtMost)) c q n m = rw (← q)
-
 module _ {s : List ℕ} {i : Image} {r : ℕ} (h : OfKind s i expression r) where
   abbrev x : Tables
   x = tables_of s
@@ -101,39 +81,21 @@ module _ {s : List ℕ} {i : Image} {r : ℕ} (h : OfKind s i expression r) wher
       → ((eqb w.code 2 && eqb w.a 0) && eqb w.b 1) ≡ is_always (condition_at (tables_of s) r)
   always-row is n = rw is (always-by (eqb (fields_of x r).code 2) refl ∙ sym (ap is_always (condition-row x r n)))
 
-  pub variable-in : {w : Fields} → w ≡ fields_of (tables_of s) r → w.code ≡ 1 → VariableOf s i w.a
-  unfolding shape_of lookup codes
-  variable-in is q =
-      let m = means x r 1 (rw is at q) in
-      rw is (record {
-        located = h.formed.located;
-        inside = omega (arith, ltb-true (fields_of x r).a (length x.variables) (row_is x ok r (an_expression is_variable) m).a, variables-count h.formed.located);
-      })
-
-  pub type-variable : {w : Fields} {t : ℕ} → w ≡ fields_of (tables_of s) r → w.code ≡ 1 → t ≡ (entry_of (tables_of s) (variable w.a)).type → TypeIs s i r t
-  unfolding shape_of lookup codes grow_expression type_of_exp entries_right
-  type-variable is q d =
-      let m = means x r 1 (rw is at q) in
+  -- its type is one of the image's
+  type-by : (m : ExpressionRow) → means_at x r ≡ an_expression m → type_of_exp x (expression_at x r) < type_count i
+  unfolding grow_expression type_of_exp entries_right
+  type-by is_variable m =
       let v = ltb-true _ _ (row_is x ok r (an_expression is_variable) m).a in
       let p = entry_in _ _ (both_true (sizes_fit x.sizes) _ h.formed.entries).1 (fields_of x r).a (record { type = 0; parameter = 0 }) v in
-      rw (d, is) (record {
-        is = sym (ap (type_of_exp x) (expression_at-is x ok r (an_expression is_variable) m));
-        inside = omega (arith, p, types-count h.formed.located);
-      })
+      rw (expression_at-is x ok r (an_expression is_variable) m) (omega (arith, p, types-count h.formed.located))
+  type-by is_constant m =
+      rw (expression_at-is x ok r (an_expression is_constant) m)
+      (omega (arith, ltb-true (fields_of x r).a (length x.sizes) (row_is x ok r (an_expression is_constant) m).a, types-count h.formed.located))
+  type-by (is_unary Not) m = rw (expression_at-is x ok r (an_expression (is_unary Not)) m) (omega (arith, (laid h.formed.located).types_least))
+  type-by (is_unary Negate) m = rw (expression_at-is x ok r (an_expression (is_unary Negate)) m) (omega (arith, (laid h.formed.located).types_least))
+  type-by (is_binary (logic o)) m = rw (expression_at-is x ok r (an_expression (is_binary (logic o))) m) (omega (arith, (laid h.formed.located).types_least))
+  type-by (is_binary (arithmetic o)) m = rw (expression_at-is x ok r (an_expression (is_binary (arithmetic o))) m) (omega (arith, (laid h.formed.located).types_least))
+  type-by (is_binary (comparison o)) m = rw (expression_at-is x ok r (an_expression (is_binary (comparison o))) m) (omega (arith, (laid h.formed.located).types_least))
 
-  pub type-constant : {w : Fields} → w ≡ fields_of (tables_of s) r → w.code ≡ 2 → TypeIs s i r w.a
-  unfolding shape_of lookup codes grow_expression type_of_exp
-  type-constant is q =
-      let m = means x r 2 (rw is at q) in
-      rw is (record {
-        is = sym (ap (type_of_exp x) (expression_at-is x ok r (an_expression is_constant) m));
-        inside = omega (arith, ltb-true (fields_of x r).a (length x.sizes) (row_is x ok r (an_expression is_constant) m).a, types-count h.formed.located);
-      })
-
-  pub type-operator : {w : Fields} {t : ℕ} → w ≡ fields_of (tables_of s) r → (w.code ≡ 1 → ⊥) → (w.code ≡ 2 → ⊥)
-      → cond (leb 19 w.code && leb w.code 24) int bool ≡ t → t ≤ 1 → TypeIs s i r t
-  type-operator is n m d l =
-      record {
-        is = sym d ∙ rw is (type-as x (expression_at x) (fields_of x r) e (fields_of x r).code code-e (rw is at n) (rw is at m) ∙ sym (ap (type_of_exp x) (expression_at-is x ok r (an_expression e) is-e)));
-        inside = omega (arith, (laid h.formed.located).types_least);
-      }
+  pub type-in : type_of_exp (tables_of s) (expression_at (tables_of s) r) < type_count i
+  type-in = type-by e is-e

@@ -25,7 +25,7 @@ kind_row {s} {i} {k} {r} t h =
 
 -- what isn't none is a row
 pub some-row : {s : List ℕ} {i : Image} {k : Kind} {r : ℕ} → OrNone s i k r → (r ≡ none → ⊥) → OfKind s i k r
-some-row {s} {i} {k} {r} h f = record { formed = h.formed; kind = go h.row }
+some-row {s} {i} {k} {r} h f = record { formed = h.formed; kind = go h.named }
   where
     go : RowOrNone (tables_of s) k r → is_kind (tables_of s) k r ≡ true
     go (inl e) = absurd (f e)

@@ -101,7 +101,7 @@ module _ {s : List ℕ} {i : Image} {r : ℕ} {ways : List ℕ} {w : Fields} (h 
   condition-of e =
       rw is (record {
         formed = h.lent.rooted.formed;
-        row = ⊎_elim (λ n. inl n) (λ p. inr p.kind) (row_is x ok r (an_action is_choose) (means x r 50 (rw is at e))).b;
+        named = ⊎_elim (λ n. inl n) (λ p. inr p.kind) (row_is x ok r (an_action is_choose) (means x r 50 (rw is at e))).b;
       })
 
   pub case-of : w.code ≡ 56 → CaseOf s i w.a w.b
@@ -110,7 +110,7 @@ module _ {s : List ℕ} {i : Image} {r : ℕ} {ways : List ℕ} {w : Fields} (h 
       let q = row_is x ok r (an_action is_case) (means x r 56 (rw is at e)) in
       rw is (record {
         subject = record { formed = h.lent.rooted.formed; kind = q.a.kind };
-        arms = record { formed = h.lent.rooted.formed; row = ⊎_elim (λ n. inl n) (λ p. inr p.0.kind) q.b };
+        arms = record { formed = h.lent.rooted.formed; named = ⊎_elim (λ n. inl n) (λ p. inr p.0.kind) q.b };
         few = short x ok (fields_of x r).b q.b;
       })
 

@@ -1,13 +1,13 @@
 -- The values 0 to 63 as a mask. Assumes nothing.
 use mathlib.Core.{Path.◌≡◌, Path.refl, Path.sym, Path.ap, Path.◌∙◌, Bool.Bool, Bool.true, Bool.false, Bool.◌&&◌, Bool.◌||◌}
-use Prim.Native.Nat.{ℕ, ◌-◌, ◌*◌, ◌%◌, ◌^◌, ◌≤◌, ◌<◌, max}
+use Prim.Native.Nat.{ℕ, ◌≤◌, max}
 use native.Mathlib.Omega.{arith}
-use lib.{Dec.eqb, Bits.bit_and, Bits.bit_or, Pow.pow_pos}
-use borrow.Author.Tests.{eqb-true, eqb-false, eq-eqb, ne_eqb, le-leb, lt-leb}
-use Rattle.model.specs.Masks.{digit, has, bit, full, meet, join, inside}
-use Rattle.model.proofs.Masks.{digit-le, digit-zero, digit-bit-here, digit-bit-there, digit-join, bit-shift}
+use lib.{Dec.eqb, Bits.bit_or}
+use borrow.Author.Tests.{eqb-true, eqb-false, eq-eqb, ne_eqb}
+use Rattle.model.specs.Masks.{digit, has, bit, join}
+use Rattle.model.proofs.Masks.{digit-le, digit-zero, digit-bit-here, digit-bit-there, digit-join}
 use Rattle.model.proofs.Rows.{and-false}
-use Rattle.speech.specs.Case.{ValueBit, all_in}
+use Rattle.speech.specs.Case.{ValueBit}
 
 pub has-zero : (k : ℕ) → has 0 k ≡ false
 has-zero k = rw (digit-zero k)
@@ -33,31 +33,11 @@ unfolding join
 has-or a b k = ap (λ n. eqb n 1) (digit-join a b k) ∙ max-one (digit a k) (digit b k) (digit-le a k) (digit-le b k)
 
 -- ---- the value of a constant
-pub value_in : (code value : ℕ) → code ≡ 34 → value < 64 → ValueBit code value (1 * 2 ^ value % 2 ^ 64)
-value_in code value e h = record { each = λ k l. rw (e, bit-shift value h) (has-bit value k) }
+pub value_in : (code value b : ℕ) → code ≡ 34 → b ≡ bit value → ValueBit code value b
+value_in code value b e h = record { each = λ k l. rw (e, h) (has-bit value k) }
 
 pub value_out : (code value : ℕ) → 64 ≤ value → ValueBit code value 0
 value_out code value h = record { each = λ k l. has-zero k ∙ sym (ap (λ b. eqb code 34 && b) (ne_eqb k value (λ e. omega arith)) ∙ and-false (eqb code 34)) }
 
 pub no_value : (code value : ℕ) → (code ≡ 34 → ⊥) → ValueBit code value 0
 no_value code value f = record { each = λ k l. rw (ne_eqb code 34 f) (has-zero k) }
-
--- ---- all values below n
-pub full-some : (n : ℕ) → n < 64 → 1 ≤ 1 * 2 ^ n % 2 ^ 64
-unfolding bit
-full-some n h = omega (arith, bit-shift n h, pow_pos n)
-
-pub full-below : (n : ℕ) → n < 64 → 1 * 2 ^ n % 2 ^ 64 - 1 ≡ full n
-unfolding bit full
-full-below n h = ap (λ m. m - 1) (bit-shift n h)
-
-pub full-all : (n : ℕ) → n ≡ 64 → 18446744073709551615 ≡ full n
-unfolding full
-full-all n e = rw e
-
-pub all-in-not : (values n : ℕ) → 64 < n → false ≡ all_in values n
-all-in-not values n h = rw (lt-leb n 64 h)
-
-pub all-in-is : (values n all : ℕ) → n ≤ 64 → all ≡ full n → eqb (bit_and all values) all ≡ all_in values n
-unfolding inside meet
-all-in-is values n all h e = rw (le-leb n 64 h, e)

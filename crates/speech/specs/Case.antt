@@ -4,39 +4,25 @@ use Rattle.std.specs.Prelude.{ℕ, ◌≤◌, ◌<◌}
 use lib.{Dec.eqb, Dec.leb, IntN.pos, ListN.length}
 use Rattle.model.specs.declared.Image.{Image}
 use Rattle.model.specs.Limits.{limits}
-use Rattle.model.specs.Image.{Tables, none, tables_of, type_count}
+use Rattle.model.specs.Image.{Tables, none, tables_of}
 use Rattle.model.specs.Rows.{Kind, expression, arm, is_kind}
 use Rattle.model.specs.Trees.{Pat, Arms}
 use Rattle.model.specs.Decode.{expression_at, list_at}
 use Rattle.model.specs.Masks.{has, full, inside}
 use Rattle.model.specs.Typing.{type_of_exp}
 use Rattle.model.specs.Speech.{catches_all, catches, some_catches_all, some_catches, exhaustive}
-use Rattle.image.specs.Located.{Formed}
+pub use Rattle.typing.specs.Rules.{OfKind, OrNone}
 use Rattle.speech.specs.Filled.{arms_at}
 
 -- a row of a kind, or none
 abbrev pub RowOrNone : Tables → Kind → ℕ → Type 0
 RowOrNone x k r = (r ≡ none) ⊎ (is_kind x k r ≡ true)
 
--- of an image free of 1 to 5: a row of a kind; such a row or none
-pub record OfKind (s : List ℕ) (i : Image) (k : Kind) (r : ℕ) : Type 0 where
-  pub formed : Formed s i
-  pub kind : is_kind (tables_of s) k r ≡ true
-
-pub record OrNone (s : List ℕ) (i : Image) (k : Kind) (r : ℕ) : Type 0 where
-  pub formed : Formed s i
-  pub row : RowOrNone (tables_of s) k r
-
 -- a case's subject and its first arm
 pub record CaseOf (s : List ℕ) (i : Image) (e first : ℕ) : Type 0 where
   pub subject : OfKind s i expression e
   pub arms : OrNone s i arm first
   pub few : length (list_at (tables_of s) first) ≤ limits.branches
-
--- t is the type of row r's expression, and a type of the image
-pub record TypeIs (s : List ℕ) (i : Image) (r t : ℕ) : Type 0 where
-  pub is : t ≡ type_of_exp (tables_of s) (expression_at (tables_of s) r)
-  pub inside : t < type_count i
 
 -- what a pattern catches: every value; those of the values 0 to 63
 pub record CaughtAs (p : Pat) (any : Bool) (values : ℕ) : Type 0 where

@@ -1,8 +1,8 @@
 -- 12 over the states. Assumes nothing.
 use mathlib.Core.{List.List, Bool.◌&&◌, Bool.not, Bool.Bool}
 use Rattle.std.specs.Prelude.{ℕ, length}
-use Rattle.model.specs.declared.{Image.Image, Verdict.Verdict, Refusal.TheVariants.Speech}
-use Rattle.model.specs.Answers.{state, each}
+use Rattle.model.specs.declared.{Image.Image, Refusal.TheVariants.Speech}
+use Rattle.model.specs.Answers.{state, each, Verdict}
 use Rattle.model.specs.Image.{Tables, tables_of, row_count}
 use Rattle.model.specs.Decode.{act}
 use Rattle.model.specs.Speech.{well_spoken}

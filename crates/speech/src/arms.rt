@@ -1,41 +1,27 @@
 // What a row's ways take from rows that are no actions: a condition, a subject's type, the patterns of arms.
-ghost use Rattle.std.specs.Prelude.{◌≡◌, ◌≤◌};
-ghost use Rattle.model.specs.Image.{tables_of};
+ghost use Rattle.image.specs.Located.{tables};
+ghost use Rattle.std.specs.Prelude.{◌≡◌};
 ghost use Rattle.model.specs.Rows.{expression, pattern, arm};
 ghost use Rattle.model.specs.Decode.{condition_at, pattern_at};
-ghost use Rattle.model.specs.Masks.{full};
 ghost use Rattle.model.specs.Speech.{is_always};
 ghost use Rattle.speech.specs.Filled.{arms_at};
-ghost use Rattle.speech.specs.Case.{OfKind, OrNone, CaseOf, TypeIs, CaughtAs, CaughtBy, ValueBit, all_in, exhaustive_at};
+ghost use Rattle.speech.specs.Case.{OfKind, OrNone, CaseOf, CaughtAs, CaughtBy, ValueBit, all_in, exhaustive_at};
 
-use image::{fields, size, variable_type};
+use image::Automaton;
+use masks::{bit, full, inside};
 use model::Image;
+use typing::type_of_expression;
 
 // The condition of an any, or none: whether it is the constant true.
-pub fn always(image: &[u8], i: Image, r: u16) -> bool
-    requires { OrNone image.now i expression r }
-    ensures { result ≡ is_always (condition_at (tables_of image.now) r) }
+pub fn always(x: &Automaton, r: u16) -> bool
+    requires { OrNone x.now.image.now x.now.trailer expression r }
+    ensures { result ≡ is_always (condition_at (tables x.now) r) }
 {
     if r == Image::NONE {
         return true;
     }
-    let w = fields(image, i, r);
+    let w = x.fields(r);
     (w.code == 2) & (w.a == 0) & (w.b == 1)
-}
-
-// The type of a row's expression.
-fn type_of(image: &[u8], i: Image, r: u16) -> u16
-    requires { OfKind image.now i expression r }
-    ensures { TypeIs image.now i r result }
-{
-    let w = fields(image, i, r);
-    let code = w.code;
-    match code {
-        1 => variable_type(image, i, w.a),
-        2 => w.a,
-        19..=24 => Image::INT,
-        _ => Image::BOOL,
-    }
 }
 
 // What the arms of a case catch: every value; those of the values 0 to 63, as a mask.
@@ -51,18 +37,18 @@ fn value_bit(code: u16, value: u16) -> u64
 {
     if code == 34 {
         if value < 64 {
-            return 1 << value;
+            return bit(value);
         }
     }
     0
 }
 
 // A pattern: an unguarded any or variable, or an unguarded constant. A guarded one, 35, catches nothing for sure.
-fn pattern_catches(image: &[u8], i: Image, r: u16) -> Caught
-    requires { OfKind image.now i pattern r }
-    ensures { CaughtAs (pattern_at (tables_of image.now) r) result.all result.values }
+fn pattern_catches(x: &Automaton, r: u16) -> Caught
+    requires { OfKind x.now.image.now x.now.trailer pattern r }
+    ensures { CaughtAs (pattern_at (tables x.now) r) result.all result.values }
 {
-    let w = fields(image, i, r);
+    let w = x.fields(r);
     Caught {
         all: (w.code == 32) | (w.code == 33),
         values: value_bit(w.code, w.b),
@@ -70,16 +56,16 @@ fn pattern_catches(image: &[u8], i: Image, r: u16) -> Caught
 }
 
 // The arms from the first on.
-fn arms_catch(image: &[u8], i: Image, first: u16) -> Caught
-    requires { OrNone image.now i arm first }
-    ensures { CaughtBy (arms_at (tables_of image.now) first) result.all result.values }
+fn arms_catch(x: &Automaton, first: u16) -> Caught
+    requires { OrNone x.now.image.now x.now.trailer arm first }
+    ensures { CaughtBy (arms_at (tables x.now) first) result.all result.values }
 {
     let mut all = false;
     let mut values: u64 = 0;
     let mut at = first;
     while at != Image::NONE {
-        let w = fields(image, i, at);
-        let c = pattern_catches(image, i, w.a);
+        let w = x.fields(at);
+        let c = pattern_catches(x, w.a);
         all = all | c.all;
         values = values | c.values;
         at = w.c;
@@ -87,41 +73,25 @@ fn arms_catch(image: &[u8], i: Image, first: u16) -> Caught
     Caught { all, values }
 }
 
-// The mask of all values below n.
-fn full_mask(n: u16) -> u64
-    requires { n ≤ 64 }
-    ensures { result ≡ full n }
-{
-    if n == 64 {
-        0xFFFF_FFFF_FFFF_FFFF
-    } else {
-        (1 << n) - 1
-    }
-}
-
 // A case has at most 64 arms, so a type of more values isn't caught value by value.
 fn all_in(values: u64, n: u16) -> bool
     ensures { result ≡ all_in values n }
 {
-    if n > 64 {
-        return false;
-    }
-    let all = full_mask(n);
-    (all & values) == all
+    n <= 64 && inside(full(n), values)
 }
 
 // Figure 11: the arms catch every value of the subject's type.
-pub fn exhaustive(image: &[u8], i: Image, subject: u16, first: u16) -> bool
-    requires { CaseOf image.now i subject first }
-    ensures { result ≡ exhaustive_at (tables_of image.now) subject first }
+pub fn exhaustive(x: &Automaton, subject: u16, first: u16) -> bool
+    requires { CaseOf x.now.image.now x.now.trailer subject first }
+    ensures { result ≡ exhaustive_at (tables x.now) subject first }
 {
-    let c = arms_catch(image, i, first);
+    let c = arms_catch(x, first);
     if c.all {
         return true;
     }
-    let t = type_of(image, i, subject);
+    let t = type_of_expression(x, subject);
     if t == Image::INT {
         return false;
     }
-    all_in(c.values, size(image, i, t))
+    all_in(c.values, x.size(t))
 }

@@ -1,11 +1,12 @@
 -- What the stages give and what the next ones are asked. Assumes nothing.
+use Rattle.std.specs.Prelude.{Ok, Err}
 use mathlib.Core.{Path.◌≡◌, Path.sym, Path.ap, Path.◌∙◌, Bool.true, List.List, List.◌++◌}
 use Prim.Native.Nat.{ℕ, ◌≤◌, ◌<◌}
 use native.Mathlib.Omega.{arith}
 use lib.{Dec.leb, ListN.length, ListN.get_or, ListN.drop}
 use borrow.Author.Tests.{leb-true, lt-leb, le-leb}
-use Rattle.model.specs.declared.{Image.Image, Verdict.Verdict, Verdict.TheVariants.Accepted, Verdict.TheVariants.Refused, Refusal.Refusal, Refusal.TheVariants.ImageLength, Refusal.TheVariants.MarkOrLength, Refusal.TheVariants.Starts, Refusal.TheVariants.Entries, Refusal.TheVariants.Malformed, Refusal.TheVariants.NoAction, Refusal.TheVariants.NoCondition, Refusal.TheVariants.Typing, Refusal.TheVariants.SetsShort}
-use Rattle.model.specs.Answers.{state, row, after, unless, each}
+use Rattle.model.specs.declared.{Image.Image, Refusal.Refusal, Refusal.TheVariants.ImageLength, Refusal.TheVariants.MarkOrLength, Refusal.TheVariants.Starts, Refusal.TheVariants.Entries, Refusal.TheVariants.Malformed, Refusal.TheVariants.NoAction, Refusal.TheVariants.NoCondition, Refusal.TheVariants.Typing, Refusal.TheVariants.SetsShort}
+use Rattle.model.specs.Answers.{state, row, after, unless, each, Verdict}
 use Rattle.model.specs.Image.{Tables, none, length_fits, marked, trailer_of, starts_fit, tables_of, entries_right, state_count}
 use Rattle.model.specs.Rows.{action, expression, formed, is_root}
 use Rattle.model.specs.Typing.{typed}
@@ -14,6 +15,7 @@ use Rattle.model.specs.Calls.{rows_verdict, rules_verdict, image_verdict, flow_v
 use Rattle.model.proofs.Rows.{both_true}
 use Rattle.model.proofs.Order.{after-accepted, after-refused, after-assoc, after_both, unless-true, each_all}
 use Rattle.image.specs.Located.{Located, Rooted, header_verdict}
+use Rattle.masks.specs.declared.Masks.{Masks}
 use Rattle.binding.specs.Bound.{binding_verdict}
 use Rattle.sets.specs.States.{Room, Found as SetsFound}
 use Rattle.image.proofs.Laid.{laid, states-count}
@@ -28,7 +30,7 @@ record Header (s : List ℕ) : Type 0 where
   starts : starts_fit (trailer_of s) ≡ true
   entries : entries_right (tables_of s) ≡ true
 
-header-passed : (s : List ℕ) → header_verdict s ≡ Accepted → Header s
+header-passed : (s : List ℕ) → header_verdict s ≡ Ok tt → Header s
 unfolding header_verdict
 header-passed s e =
     let a = after_both (unless (length_fits s) ImageLength) _ e in
@@ -41,26 +43,26 @@ header-passed s e =
       entries = unless-true _ Entries c.1;
     }
 
-pub trailer-inside : (s : List ℕ) → header_verdict s ≡ Accepted → 16 ≤ length s
+pub trailer-inside : (s : List ℕ) → header_verdict s ≡ Ok tt → 16 ≤ length s
 unfolding length_fits
 trailer-inside s e = omega (arith, leb-true 38 (length s) (both_true (leb 38 (length s)) _ (header-passed s e).long).0)
 
-pub located-of : (s : List ℕ) (i : Image) → i ≡ trailer_of s → header_verdict s ≡ Accepted → Located s i
+pub located-of : (s : List ℕ) (i : Image) → i ≡ trailer_of s → header_verdict s ≡ Ok tt → Located s i
 located-of s i e h =
     let p = header-passed s h in
     record { trailer = e; long = p.long; marked = p.marked; starts = rw e p.starts }
 
 -- 1 to 7
-pub tables-refused : (s : List ℕ) (y : Refusal) → header_verdict s ≡ Refused y → Refused y ≡ tables_verdict s
+pub tables-refused : (s : List ℕ) (y : Refusal) → header_verdict s ≡ Err y → Err y ≡ tables_verdict s
 unfolding tables_verdict
 tables-refused s y e = sym (after-refused (header_verdict s) _ y e)
 
-pub tables-rows : (s : List ℕ) (v : Verdict) → header_verdict s ≡ Accepted → v ≡ rows_verdict (tables_of s) → v ≡ tables_verdict s
+pub tables-rows : (s : List ℕ) (v : Verdict) → header_verdict s ≡ Ok tt → v ≡ rows_verdict (tables_of s) → v ≡ tables_verdict s
 unfolding tables_verdict
 tables-rows s v e f = f ∙ sym (after-accepted (header_verdict s) _ e)
 
 -- what an image free of 1 to 7 has
-pub rooted-of : (s : List ℕ) (i : Image) → i ≡ trailer_of s → tables_verdict s ≡ Accepted → Rooted s i
+pub rooted-of : (s : List ℕ) (i : Image) → i ≡ trailer_of s → tables_verdict s ≡ Ok tt → Rooted s i
 unfolding tables_verdict rows_verdict
 rooted-of s i e v =
     let x = tables_of s in
@@ -79,47 +81,47 @@ rooted-of s i e v =
     }
 
 -- 8 and 9
-pub rules-refused : (x : Tables) (y : Refusal) → typing_verdict x ≡ Refused y → Refused y ≡ rules_verdict x
+pub rules-refused : (x : Tables) (y : Refusal) → typing_verdict x ≡ Err y → Err y ≡ rules_verdict x
 unfolding rules_verdict typing_verdict
 rules-refused x y e = sym (after-refused (each (typed x) (length x.rows) (λ r. Typing (row r))) _ y e)
 
-pub rules-binding : (x : Tables) (v : Verdict) → typing_verdict x ≡ Accepted → v ≡ binding_verdict x → v ≡ rules_verdict x
+pub rules-binding : (x : Tables) (v : Verdict) → typing_verdict x ≡ Ok tt → v ≡ binding_verdict x → v ≡ rules_verdict x
 unfolding rules_verdict typing_verdict binding_verdict
 rules-binding x v e f = f ∙ sym (after-accepted (each (typed x) (length x.rows) (λ r. Typing (row r))) _ e)
 
 -- a verdict that is known and refuses
-pub tables-stays : (s : List ℕ) (v : Verdict) (y : Refusal) → v ≡ header_verdict s → v ≡ Refused y → v ≡ tables_verdict s
+pub tables-stays : (s : List ℕ) (v : Verdict) (y : Refusal) → v ≡ header_verdict s → v ≡ Err y → v ≡ tables_verdict s
 tables-stays s v y e f = f ∙ tables-refused s y (sym e ∙ f)
 
-pub rules-stays : (x : Tables) (v : Verdict) (y : Refusal) → v ≡ typing_verdict x → v ≡ Refused y → v ≡ rules_verdict x
+pub rules-stays : (x : Tables) (v : Verdict) (y : Refusal) → v ≡ typing_verdict x → v ≡ Err y → v ≡ rules_verdict x
 rules-stays x v y e f = f ∙ rules-refused x y (sym e ∙ f)
 
 -- 10 and 11
 states-known : {s : List ℕ} {i : Image} → Rooted s i → length (tables_of s).states ≡ state_count i
 states-known r = states-count r.formed.located
 
-leaves-on : (v w : Verdict) (x : Tables) (was : List ℕ) → v ≡ Accepted → leaves (after v w) x was ≡ leaves w x was
+leaves-on : (v w : Verdict) (x : Tables) (was : List ℕ) → v ≡ Ok tt → leaves (after v w) x was ≡ leaves w x was
 leaves-on v w x was e = ap (λ (u : Verdict). leaves u x was) (after-accepted v w e)
 
-leaves_none : (v w : Verdict) (x : Tables) (was : List ℕ) (y : Refusal) → v ≡ Refused y → leaves (after v w) x was ≡ was
+leaves_none : (v w : Verdict) (x : Tables) (was : List ℕ) (y : Refusal) → v ≡ Err y → leaves (after v w) x was ≡ was
 unfolding leaves
 leaves_none v w x was y e = ap (λ (u : Verdict). leaves u x was) (after-refused v w y e)
 
 pub found-short : (s : List ℕ) (room n : ℕ) (was : List ℕ) → n ≡ length (tables_of s).states → room < n
-    → Found (tables_of s) room (Refused SetsShort) was was
+    → Found (tables_of s) room (Err SetsShort) was was
 unfolding found_verdict after leaves
 found-short s room n was e h =
     let f = lt-leb (length (tables_of s).states) room (omega arith) in
     record { verdict = rw f; left = rw f }
 
-pub found-sets : (s : List ℕ) (room n : ℕ) (v : Verdict) (was masks : List ℕ) → n ≡ length (tables_of s).states → n ≤ room
-    → SetsFound (tables_of s) v was masks → Found (tables_of s) room v was masks
+pub found-sets : (s : List ℕ) (room n : ℕ) (v : Verdict) (was sets : List ℕ) → n ≡ length (tables_of s).states → n ≤ room
+    → SetsFound (tables_of s) v was sets → Found (tables_of s) room v was sets
 unfolding found_verdict after leaves
-found-sets s room n v was masks e h f =
+found-sets s room n v was sets e h f =
     let t = le-leb (length (tables_of s).states) room (omega arith) in
     record { verdict = f.verdict ∙ rw t; left = f.first ∙ rw t }
 
-pub to-sets : {s : List ℕ} {i : Image} {uses defs leads masks : List ℕ} → Masked s i uses defs leads masks → Room s i uses defs leads masks
+pub to-sets : {s : List ℕ} {i : Image} {ms : List Masks} {sets : List ℕ} → Masked s i ms sets → Room s i ms sets
 to-sets m =
     record {
       lending = record { rooted = m.rooted; filled = m.filled };
@@ -131,26 +133,26 @@ room-is : (x : Tables) (room : ℕ) → room_verdict x room ≡ after (found_ver
 unfolding room_verdict found_verdict flow_verdict speech_verdict
 room-is x room = sym (after-assoc (room_stage x room) _ _)
 
-pub flow-stays : {x : Tables} (room : ℕ) {v : Verdict} (y : Refusal) {was masks : List ℕ} → Found x room v was masks → v ≡ Refused y
-    → Flowed x room v was masks
+pub flow-stays : {x : Tables} (room : ℕ) {v : Verdict} (y : Refusal) {was sets : List ℕ} → Found x room v was sets → v ≡ Err y
+    → Flowed x room v was sets
 flow-stays {x} room y f e =
     record { verdict = e ∙ sym (room-is x room ∙ after-refused (found_verdict x room) _ y (sym f.verdict ∙ e)); left = f.left }
 
-pub flow-speech : {x : Tables} (room : ℕ) {v : Verdict} (r : Verdict) {was masks : List ℕ} → Found x room v was masks → v ≡ Accepted
-    → r ≡ speech_verdict x → Flowed x room r was masks
+pub flow-speech : {x : Tables} (room : ℕ) {v : Verdict} (r : Verdict) {was sets : List ℕ} → Found x room v was sets → v ≡ Ok tt
+    → r ≡ speech_verdict x → Flowed x room r was sets
 flow-speech {x} room r f e g =
     record { verdict = g ∙ sym (room-is x room ∙ after-accepted (found_verdict x room) _ (sym f.verdict ∙ e)); left = f.left }
 
 -- 8 to 12
-pub trees-stays : (room : ℕ) {x : Tables} {n : ℕ} {v : Verdict} {uses defs leads : List ℕ} (y : Refusal) (was : List ℕ) → Ruled x n v uses defs leads
-    → v ≡ Refused y → Judged x room v was was
+pub trees-stays : (room : ℕ) {x : Tables} {n : ℕ} {v : Verdict} {ms : List Masks} (y : Refusal) (was : List ℕ) → Ruled x n v ms
+    → v ≡ Err y → Judged x room v was was
 unfolding trees_verdict
 trees-stays room {x} y was f e =
     let k = sym f.verdict ∙ e in
     record { verdict = e ∙ sym (after-refused (rules_verdict x) _ y k); left = sym (leaves_none (rules_verdict x) _ x was y k) }
 
-pub trees-flow : (room : ℕ) {x : Tables} {n : ℕ} {v : Verdict} {uses defs leads : List ℕ} (r : Verdict) {was masks : List ℕ} → Ruled x n v uses defs leads
-    → v ≡ Accepted → Flowed x room r was masks → Judged x room r was masks
+pub trees-flow : (room : ℕ) {x : Tables} {n : ℕ} {v : Verdict} {ms : List Masks} (r : Verdict) {was sets : List ℕ} → Ruled x n v ms
+    → v ≡ Ok tt → Flowed x room r was sets → Judged x room r was sets
 unfolding trees_verdict
 trees-flow room {x} r {was} f e g =
     let k = sym f.verdict ∙ e in
@@ -168,7 +170,7 @@ check-trees : (s : List ℕ) (room : ℕ) → check_verdict s room ≡ after (ta
 unfolding check_verdict trees_verdict room_verdict
 check-trees s room = after-image s _
 
-pub judge-stays : (s : List ℕ) (room : ℕ) {v : Verdict} (y : Refusal) (was : List ℕ) → v ≡ tables_verdict s → v ≡ Refused y → Checks s room v was was
+pub judge-stays : (s : List ℕ) (room : ℕ) {v : Verdict} (y : Refusal) (was : List ℕ) → v ≡ tables_verdict s → v ≡ Err y → Checks s room v was was
 judge-stays s room y was f e =
     let k = sym f ∙ e in
     record {
@@ -176,8 +178,8 @@ judge-stays s room y was f e =
       left = sym (ap (λ (u : Verdict). leaves u (tables_of s) was) (after-image s _) ∙ leaves_none (tables_verdict s) _ (tables_of s) was y k);
     }
 
-pub judge-trees : (s : List ℕ) (room : ℕ) {v : Verdict} (r : Verdict) {was masks : List ℕ} → v ≡ tables_verdict s → v ≡ Accepted
-    → Judged (tables_of s) room r was masks → Checks s room r was masks
+pub judge-trees : (s : List ℕ) (room : ℕ) {v : Verdict} (r : Verdict) {was sets : List ℕ} → v ≡ tables_verdict s → v ≡ Ok tt
+    → Judged (tables_of s) room r was sets → Checks s room r was sets
 judge-trees s room r {was} f e g =
     let k = sym f ∙ e in
     record {
@@ -186,28 +188,28 @@ judge-trees s room r {was} f e g =
     }
 
 -- 1 to 9
-pub image-stays : (s : List ℕ) {v : Verdict} (y : Refusal) → v ≡ tables_verdict s → v ≡ Refused y → v ≡ image_verdict s
+pub image-stays : (s : List ℕ) {v : Verdict} (y : Refusal) → v ≡ tables_verdict s → v ≡ Err y → v ≡ image_verdict s
 image-stays s y f e = e ∙ sym (image-tables s ∙ after-refused (tables_verdict s) _ y (sym f ∙ e))
 
-pub image-rules : (s : List ℕ) {v : Verdict} (r : Verdict) → v ≡ tables_verdict s → v ≡ Accepted → r ≡ rules_verdict (tables_of s) → r ≡ image_verdict s
+pub image-rules : (s : List ℕ) {v : Verdict} (r : Verdict) → v ≡ tables_verdict s → v ≡ Ok tt → r ≡ rules_verdict (tables_of s) → r ≡ image_verdict s
 image-rules s r f e g = g ∙ sym (image-tables s ∙ after-accepted (tables_verdict s) _ (sym f ∙ e))
 
 pub to-ruling : {s : List ℕ} {i : Image} → Rooted s i → Ruling s i 2048
 to-ruling r = record { rooted = r; rows = (laid r.formed.located).rows_most }
 
 -- what an accepted image has passed
-module _ (s : List ℕ) (room : ℕ) (e : check_verdict s room ≡ Accepted) where
-  both : (tables_verdict s ≡ Accepted) × (trees_verdict (tables_of s) room ≡ Accepted)
+module _ (s : List ℕ) (room : ℕ) (e : check_verdict s room ≡ Ok tt) where
+  both : (tables_verdict s ≡ Ok tt) × (trees_verdict (tables_of s) room ≡ Ok tt)
   both = after_both (tables_verdict s) (trees_verdict (tables_of s) room) (sym (check-trees s room) ∙ e)
 
-  pub accepted-tables : tables_verdict s ≡ Accepted
+  pub accepted-tables : tables_verdict s ≡ Ok tt
   accepted-tables = both.0
 
-  rules-and-room : (rules_verdict (tables_of s) ≡ Accepted) × (room_verdict (tables_of s) room ≡ Accepted)
+  rules-and-room : (rules_verdict (tables_of s) ≡ Ok tt) × (room_verdict (tables_of s) room ≡ Ok tt)
   unfolding trees_verdict
   rules-and-room = after_both (rules_verdict (tables_of s)) (room_verdict (tables_of s) room) both.1
 
-  room-passed : room_stage (tables_of s) room ≡ Accepted
+  room-passed : room_stage (tables_of s) room ≡ Ok tt
   unfolding room_verdict
   room-passed = (after_both (room_stage (tables_of s) room) (flow_verdict (tables_of s)) rules-and-room.1).0
 
@@ -222,12 +224,12 @@ module _ (s : List ℕ) (room : ℕ) (e : check_verdict s room ≡ Accepted) whe
       ap (λ (u : Verdict). leaves u x was) (after-image s _ ∙ after-accepted (tables_verdict s) _ both.0
       ∙ after-accepted (rules_verdict x) _ rules-and-room.0 ∙ room-passed)
 
-pub trailer-there : (s : List ℕ) {v : Verdict} → v ≡ tables_verdict s → v ≡ Accepted → 16 ≤ length s
+pub trailer-there : (s : List ℕ) {v : Verdict} → v ≡ tables_verdict s → v ≡ Ok tt → 16 ≤ length s
 unfolding tables_verdict
 trailer-there s f e = trailer-inside s (after_both (header_verdict s) (rows_verdict (tables_of s)) (sym f ∙ e)).0
 
-pub to-sized : {s : List ℕ} {i : Image} {masks : List ℕ} → Rooted s i → 64 ≤ length masks → Sized s i 2048 masks
+pub to-sized : {s : List ℕ} {i : Image} {sets : List ℕ} → Rooted s i → 64 ≤ length sets → Sized s i 2048 sets
 to-sized r m = record { rooted = r; rows = (laid r.formed.located).rows_most; room = m }
 
-pub rooted-there : (s : List ℕ) (i : Image) {v : Verdict} → i ≡ trailer_of s → v ≡ tables_verdict s → v ≡ Accepted → Rooted s i
+pub rooted-there : (s : List ℕ) (i : Image) {v : Verdict} → i ≡ trailer_of s → v ≡ tables_verdict s → v ≡ Ok tt → Rooted s i
 rooted-there s i t f e = rooted-of s i t (sym f ∙ e)

@@ -1,234 +1,161 @@
-// The stages 1 to 12 of check in their order, on scratch that the caller lends.
+// The stages 1 to 12 of check in their order, on scratch for as many rows as the image needs.
 #![tactic(auto)]
 
+ghost use Rattle.image.specs.Located.{tables};
 ghost use Rattle.std.specs.Prelude.{◌≡◌, length, ◌≤◌};
-ghost use Rattle.model.specs.Image.{tables_of, row_count};
+ghost use Rattle.model.specs.Image.{row_count};
 ghost use Rattle.masks.specs.Rows.{Lent};
 ghost use Rattle.stages.specs.Judging.{tables_verdict, Ruled, Masked, Found, Flowing, Flowed, Treeing, Judged, Sized, Ruling, Checks};
 ghost use Rattle.model.specs.Calls.{rules_verdict, image_verdict};
 
 use binding::binding_verdict;
 use header::header;
-use image::{row_count, state_count, trailer};
-use masks::fill;
-use model::{Image, Refusal, Verdict};
+use image::{Automaton, trailer};
+use masks::{Masks, fill};
+use model::{Image, Refusal};
 use rows::rows_verdict;
 use sets::sets_verdict;
 use speech::speech_verdict;
 use typing::typing_verdict;
 
+// Rows of the largest image.
+const ROWS: usize = Image::ROWS as usize;
+
 // 1 to 7: trailer, tables, rows.
-fn tables(image: &[u8]) -> Verdict
+fn tables(image: &[u8]) -> Result<(), Refusal>
     ensures { result ≡ tables_verdict image.now }
 {
-    let v = header(image);
-    match v {
-        Verdict::Refused(_) => v,
-        Verdict::Accepted => {
-            let i = trailer(image);
-            rows_verdict(image, i)
-        }
-    }
+    header(image)?;
+    let x = Automaton {
+        image,
+        trailer: trailer(image),
+    };
+    rows_verdict(&x)
 }
 
 // 8 and 9, with the masks of rows that the later stages read.
-fn rules(image: &[u8], i: Image, uses: &mut [u64], defs: &mut [u64], leads: &mut [u64]) -> Verdict
-    requires { Lent image.now i uses.old defs.old leads.old }
-    ensures { Ruled (tables_of image.now) (row_count i) result uses.new defs.new leads.new }
+fn rules(x: &Automaton, masks: &mut [Masks]) -> Result<(), Refusal>
+    requires { Lent x.now.image.now x.now.trailer masks.old }
+    ensures { Ruled (tables x.now) (row_count x.now.trailer) result masks.new }
 {
-    fill(image, i, uses, defs, leads);
-    let v = typing_verdict(image, i);
-    match v {
-        Verdict::Refused(_) => v,
-        Verdict::Accepted => binding_verdict(image, i, uses, defs),
-    }
+    fill(x, masks);
+    typing_verdict(x)?;
+    binding_verdict(x, masks)
 }
 
 // 10 and 11: room for the sets, then the sets and what is read before it is set.
-fn found(
-    image: &[u8],
-    i: Image,
-    room: usize,
-    uses: &[u64],
-    defs: &[u64],
-    leads: &[u64],
-    masks: &mut [u64],
-) -> Verdict
-    requires { Masked image.now i uses.now defs.now leads.now masks.old }
-    ensures { Found (tables_of image.now) room result masks.old masks.new }
+fn found(x: &Automaton, room: usize, masks: &[Masks], sets: &mut [u64]) -> Result<(), Refusal>
+    requires { Masked x.now.image.now x.now.trailer masks.now sets.old }
+    ensures { Found (tables x.now) room result sets.old sets.new }
 {
-    if room < state_count(image, i) as usize {
-        return Verdict::Refused(Refusal::SetsShort);
+    if room < x.state_count() as usize {
+        return Err(Refusal::SetsShort);
     }
-    sets_verdict(image, i, uses, defs, leads, masks)
+    sets_verdict(x, masks, sets)
 }
 
 // 10 to 12: the sets, then speech.
 fn flow(
-    image: &[u8],
-    i: Image,
+    x: &Automaton,
     room: usize,
-    uses: &[u64],
-    defs: &[u64],
-    leads: &[u64],
-    masks: &mut [u64],
+    masks: &[Masks],
+    sets: &mut [u64],
     ways: &mut [u8],
-) -> Verdict
-    requires { Flowing image.now i uses.now defs.now leads.now masks.old ways.old }
-    ensures { Flowed (tables_of image.now) room result masks.old masks.new }
+) -> Result<(), Refusal>
+    requires { Flowing x.now.image.now x.now.trailer masks.now sets.old ways.old }
+    ensures { Flowed (tables x.now) room result sets.old sets.new }
 {
-    let v = found(image, i, room, uses, defs, leads, masks);
-    match v {
-        Verdict::Refused(_) => v,
-        Verdict::Accepted => speech_verdict(image, i, ways),
-    }
+    found(x, room, masks, sets)?;
+    speech_verdict(x, ways)
 }
 
 // 8 to 12, of an image free of 1 to 7.
 fn trees(
-    image: &[u8],
-    i: Image,
+    x: &Automaton,
     room: usize,
-    uses: &mut [u64],
-    defs: &mut [u64],
-    leads: &mut [u64],
-    masks: &mut [u64],
+    masks: &mut [Masks],
+    sets: &mut [u64],
     ways: &mut [u8],
-) -> Verdict
-    requires { Treeing image.now i uses.old defs.old leads.old masks.old ways.old }
-    ensures { Judged (tables_of image.now) room result masks.old masks.new }
+) -> Result<(), Refusal>
+    requires { Treeing x.now.image.now x.now.trailer masks.old sets.old ways.old }
+    ensures { Judged (tables x.now) room result sets.old sets.new }
 {
-    let v = rules(image, i, uses, defs, leads);
-    match v {
-        Verdict::Refused(_) => v,
-        Verdict::Accepted => flow(image, i, room, uses, defs, leads, masks, ways),
-    }
+    rules(x, masks)?;
+    flow(x, room, masks, sets, ways)
 }
 
-// The same on scratch for 128 rows, for 512 and for any image: to clear it costs time, and most images are small.
-fn small(image: &[u8], i: Image, room: usize, masks: &mut [u64]) -> Verdict
-    requires { Sized image.now i 128 masks.old }
-    ensures { Judged (tables_of image.now) room result masks.old masks.new }
+// The same on scratch for N rows.
+fn judged_on<const N: usize>(x: &Automaton, room: usize, sets: &mut [u64]) -> Result<(), Refusal>
+    requires sized { Sized x.now.image.now x.now.trailer N sets.old }
+    requires few { N ≤ 2048 }
+    ensures { Judged (tables x.now) room result sets.old sets.new }
 {
-    let mut uses = [0u64; 128];
-    let mut defs = [0u64; 128];
-    let mut leads = [0u64; 128];
-    let mut ways = [0u8; 128];
-    trees(
-        image, i, room, &mut uses, &mut defs, &mut leads, masks, &mut ways,
-    )
+    let mut masks = [Masks::NOTHING; N];
+    let mut ways = [0u8; N];
+    trees(x, room, &mut masks, sets, &mut ways)
 }
 
-fn medium(image: &[u8], i: Image, room: usize, masks: &mut [u64]) -> Verdict
-    requires { Sized image.now i 512 masks.old }
-    ensures { Judged (tables_of image.now) room result masks.old masks.new }
+// The same on scratch for 128 rows, for 512 or for any image: to clear it costs time, and most images are small.
+fn sized(x: &Automaton, room: usize, sets: &mut [u64]) -> Result<(), Refusal>
+    requires { Sized x.now.image.now x.now.trailer 2048 sets.old }
+    ensures { Judged (tables x.now) room result sets.old sets.new }
 {
-    let mut uses = [0u64; 512];
-    let mut defs = [0u64; 512];
-    let mut leads = [0u64; 512];
-    let mut ways = [0u8; 512];
-    trees(
-        image, i, room, &mut uses, &mut defs, &mut leads, masks, &mut ways,
-    )
-}
-
-fn large(image: &[u8], i: Image, room: usize, masks: &mut [u64]) -> Verdict
-    requires { Sized image.now i 2048 masks.old }
-    ensures { Judged (tables_of image.now) room result masks.old masks.new }
-{
-    let mut uses = [0u64; Image::ROWS as usize];
-    let mut defs = [0u64; Image::ROWS as usize];
-    let mut leads = [0u64; Image::ROWS as usize];
-    let mut ways = [0u8; Image::ROWS as usize];
-    trees(
-        image, i, room, &mut uses, &mut defs, &mut leads, masks, &mut ways,
-    )
-}
-
-fn sized(image: &[u8], i: Image, room: usize, masks: &mut [u64]) -> Verdict
-    requires { Sized image.now i 2048 masks.old }
-    ensures { Judged (tables_of image.now) room result masks.old masks.new }
-{
-    let n = row_count(image, i);
+    let n = x.row_count();
     if n <= 128 {
-        return small(image, i, room, masks);
+        return judged_on::<128>(x, room, sets);
     }
     if n <= 512 {
-        return medium(image, i, room, masks);
+        return judged_on::<512>(x, room, sets);
     }
-    large(image, i, room, masks)
+    judged_on::<ROWS>(x, room, sets)
 }
 
-// 1 to 12, with room for so many sets, which are left in the masks.
-pub fn judge(image: &[u8], room: usize, masks: &mut [u64]) -> Verdict
-    requires { 64 ≤ length masks.old }
-    ensures { Checks image.now room result masks.old masks.new }
+// 1 to 12, with room for so many sets, which are left in the first entries lent.
+pub fn judge(image: &[u8], room: usize, sets: &mut [u64]) -> Result<(), Refusal>
+    requires { 64 ≤ length sets.old }
+    ensures { Checks image.now room result sets.old sets.new }
 {
-    let v = tables(image);
-    match v {
-        Verdict::Refused(_) => v,
-        Verdict::Accepted => {
-            let i = trailer(image);
-            sized(image, i, room, masks)
-        }
-    }
+    tables(image)?;
+    let x = Automaton {
+        image,
+        trailer: trailer(image),
+    };
+    sized(&x, room, sets)
 }
 
-// 8 and 9 on scratch for 128 rows, for 512 and for any image.
-fn rules_small(image: &[u8], i: Image) -> Verdict
-    requires { Ruling image.now i 128 }
-    ensures { result ≡ rules_verdict (tables_of image.now) }
+// 8 and 9 on scratch for N rows.
+fn rules_on<const N: usize>(x: &Automaton) -> Result<(), Refusal>
+    requires ruling { Ruling x.now.image.now x.now.trailer N }
+    requires few { N ≤ 2048 }
+    ensures { result ≡ rules_verdict (tables x.now) }
 {
-    let mut uses = [0u64; 128];
-    let mut defs = [0u64; 128];
-    let mut leads = [0u64; 128];
-    rules(image, i, &mut uses, &mut defs, &mut leads)
+    let mut masks = [Masks::NOTHING; N];
+    rules(x, &mut masks)
 }
 
-fn rules_medium(image: &[u8], i: Image) -> Verdict
-    requires { Ruling image.now i 512 }
-    ensures { result ≡ rules_verdict (tables_of image.now) }
+// 8 and 9 on scratch for 128 rows, for 512 or for any image.
+fn rules_sized(x: &Automaton) -> Result<(), Refusal>
+    requires { Ruling x.now.image.now x.now.trailer 2048 }
+    ensures { result ≡ rules_verdict (tables x.now) }
 {
-    let mut uses = [0u64; 512];
-    let mut defs = [0u64; 512];
-    let mut leads = [0u64; 512];
-    rules(image, i, &mut uses, &mut defs, &mut leads)
-}
-
-fn rules_large(image: &[u8], i: Image) -> Verdict
-    requires { Ruling image.now i 2048 }
-    ensures { result ≡ rules_verdict (tables_of image.now) }
-{
-    let mut uses = [0u64; Image::ROWS as usize];
-    let mut defs = [0u64; Image::ROWS as usize];
-    let mut leads = [0u64; Image::ROWS as usize];
-    rules(image, i, &mut uses, &mut defs, &mut leads)
-}
-
-fn rules_sized(image: &[u8], i: Image) -> Verdict
-    requires { Ruling image.now i 2048 }
-    ensures { result ≡ rules_verdict (tables_of image.now) }
-{
-    let n = row_count(image, i);
+    let n = x.row_count();
     if n <= 128 {
-        return rules_small(image, i);
+        return rules_on::<128>(x);
     }
     if n <= 512 {
-        return rules_medium(image, i);
+        return rules_on::<512>(x);
     }
-    rules_large(image, i)
+    rules_on::<ROWS>(x)
 }
 
 // 1 to 9: what every call refuses first.
-pub fn image_verdict(image: &[u8]) -> Verdict
+pub fn image_verdict(image: &[u8]) -> Result<(), Refusal>
     ensures { result ≡ image_verdict image.now }
 {
-    let v = tables(image);
-    match v {
-        Verdict::Refused(_) => v,
-        Verdict::Accepted => {
-            let i = trailer(image);
-            rules_sized(image, i)
-        }
-    }
+    tables(image)?;
+    let x = Automaton {
+        image,
+        trailer: trailer(image),
+    };
+    rules_sized(&x)
 }

@@ -1,12 +1,12 @@
 -- 13 to 16 in their order. Assumes nothing.
+use Rattle.std.specs.Prelude.{Ok, Err}
 use mathlib.Core.{Path.◌≡◌, Path.sym, Path.ap, Path.◌∙◌, Bool.Bool, Bool.true, Bool.false, List.List}
-use Prim.Native.Nat.{ℕ, ◌^◌, ◌≤◌, ◌<◌}
-use native.Mathlib.Omega.{arith}
+use Prim.Native.Nat.{ℕ, ◌^◌, ◌<◌}
 use lib.{Dec.ltb, IntN.ℤ, IntN.pos, Signed.mag, ListN.length, ListN.get_or}
 use borrow.Author.Tests.{eq-eqb, ne_eqb}
 use Rattle.values.proofs.Held.{held, held-is}
-use Rattle.model.specs.declared.{Image.Image, Verdict.Verdict, Verdict.TheVariants.Accepted, Verdict.TheVariants.Refused, Refusal.Refusal, Refusal.TheVariants.StoreLength, Refusal.TheVariants.ParameterCount, Refusal.TheVariants.ParameterValue, Refusal.TheVariants.ConditionFalse, Tested.Tested, Tested.TheVariants.Holds, Tested.TheVariants.Fails, Tested.TheVariants.Unsure}
-use Rattle.model.specs.Answers.{variable, after, unless, lowest}
+use Rattle.model.specs.declared.{Image.Image, Refusal.Refusal, Refusal.TheVariants.StoreLength, Refusal.TheVariants.ParameterCount, Refusal.TheVariants.ConditionFalse, Tested.Tested, Tested.TheVariants.Holds, Tested.TheVariants.Fails, Tested.TheVariants.Unsure}
+use Rattle.model.specs.Answers.{variable, after, unless, Verdict}
 use Rattle.model.specs.Values.{of_size}
 use Rattle.model.specs.Image.{Tables, tables_of, entry_of, type_of, size_of}
 use Rattle.model.specs.Rows.{expression, is_root}
@@ -14,7 +14,7 @@ use Rattle.model.specs.Decode.{initial, expression_at}
 use Rattle.model.specs.Run.{slot, test}
 use Rattle.model.specs.Calls.{image_verdict, parameter_count, started, slot_of_type, start_verdict, Started, start}
 use Rattle.model.proofs.Rows.{both_true}
-use Rattle.model.proofs.Order.{after-accepted, after-refused, each-full, each-refuses, each_all}
+use Rattle.model.proofs.Order.{after-accepted, after-refused, each_all}
 use Rattle.image.proofs.Laid.{condition-is}
 use Rattle.expressions.specs.Ready.{Runs}
 use Rattle.expressions.proofs.Operated.{get_d_any}
@@ -35,19 +35,6 @@ module _ (x : Tables) (m : List ℤ) (v : ℕ) {p : ℕ} (e : p ≡ (entry_of x 
   unfolding right_at slot_of_type slot
   right-typed hf one ty si h f g =
       g ∙ sym (rw (eq-eqb (entry_of x (variable v)).parameter 1 (sym e ∙ one), hf, ← ty, ← si, held-is (get_or m v (pos 0)) f) (ap (of_size 32768 _) (get_d_any m v _ (pos 0) h)))
-
--- 15
-module _ (x : Tables) (m : List ℤ) where
-  pub parameters-passed : {v : ℕ} → length x.variables ≤ v → v ≤ length x.variables → lowest (right_at x m) v ≡ v → Accepted ≡ parameters_verdict x m
-  unfolding parameters_verdict
-  parameters-passed {v} h k l =
-      let e : v ≡ length x.variables = omega arith in
-      sym (each-full (right_at x m) (length x.variables) _ (rw e at l))
-
-  pub parameters-refused : {v : ℕ} {b : Bool} → lowest (right_at x m) v ≡ v → v < length x.variables → b ≡ right_at x m v → b ≡ false
-      → Refused (ParameterValue (variable v)) ≡ parameters_verdict x m
-  unfolding parameters_verdict
-  parameters-refused {v} l h e f = sym (each-refuses (right_at x m) (length x.variables) (λ u. ParameterValue (variable u)) v l h (sym e ∙ f))
 
 -- 16
 pub runs : {s : List ℕ} {i : Image} {m : List ℤ} → Typed s i m → Runs expression s i.rows i.condition m
@@ -73,15 +60,15 @@ module _ {s : List ℕ} {i : Image} {m : List ℤ} (t : Typed s i m) {v : Tested
 
 -- 15 and 16
 module _ (x : Tables) (m : List ℤ) {v : Verdict} (f : v ≡ parameters_verdict x m) where
-  pub values-stays : (y : Refusal) → v ≡ Refused y → v ≡ values_verdict x m
+  pub values-stays : (y : Refusal) → v ≡ Err y → v ≡ values_verdict x m
   unfolding values_verdict
   values-stays y e = e ∙ sym (after-refused (parameters_verdict x m) _ y (sym f ∙ e))
 
-  pub values-condition : {r : Verdict} → v ≡ Accepted → r ≡ condition_verdict x m → r ≡ values_verdict x m
+  pub values-condition : {r : Verdict} → v ≡ Ok tt → r ≡ condition_verdict x m → r ≡ values_verdict x m
   unfolding values_verdict
   values-condition e g = g ∙ sym (after-accepted (parameters_verdict x m) _ (sym f ∙ e))
 
-pub typed-of : {s : List ℕ} {i : Image} {m : List ℤ} {v : Verdict} → Filled s i m → v ≡ parameters_verdict (tables_of s) m → v ≡ Accepted → Typed s i m
+pub typed-of : {s : List ℕ} {i : Image} {m : List ℤ} {v : Verdict} → Filled s i m → v ≡ parameters_verdict (tables_of s) m → v ≡ Ok tt → Typed s i m
 unfolding parameters_verdict right_at
 typed-of {s} {i} {m} p f e =
     let x = tables_of s in
@@ -95,11 +82,11 @@ filled_of {params = params} h k e =
 
 -- the values, then the copy
 module _ (x : Tables) (params store : List ℤ) {m : List ℤ} {v : Verdict} (e : m ≡ started x params) (f : v ≡ values_verdict x m) where
-  pub begun-refused : (y : Refusal) → v ≡ Refused y → ◌≡◌ {A = Started} (record { answer = v; store = store }) (begun x params store)
+  pub begun-refused : (y : Refusal) → v ≡ Err y → ◌≡◌ {A = Started} (record { answer = v; store = store }) (begun x params store)
   unfolding begun
   begun-refused y g = rw (← e, ← f, g)
 
-  pub begun-accepted : {to : List ℤ} → v ≡ Accepted → to ≡ m → ◌≡◌ {A = Started} (record { answer = v; store = to }) (begun x params store)
+  pub begun-accepted : {to : List ℤ} → v ≡ Ok tt → to ≡ m → ◌≡◌ {A = Started} (record { answer = v; store = to }) (begun x params store)
   unfolding begun
   begun-accepted g c = rw (← e, ← f, g, c)
 
@@ -109,12 +96,12 @@ begins-of h e =
 
 -- 13 and 14
 module _ (x : Tables) (params store : List ℤ) where
-  pub counted-store : (length store ≡ length x.variables → ⊥) → ◌≡◌ {A = Started} (record { answer = Refused StoreLength; store = store }) (counted x params store)
+  pub counted-store : (length store ≡ length x.variables → ⊥) → ◌≡◌ {A = Started} (record { answer = Err StoreLength; store = store }) (counted x params store)
   unfolding counted counts_verdict after
   counted-store n = sym (rw (ne_eqb (length store) (length x.variables) n))
 
   pub counted-params : length store ≡ length x.variables → (length params ≡ parameter_count x.variables → ⊥)
-      → ◌≡◌ {A = Started} (record { answer = Refused ParameterCount; store = store }) (counted x params store)
+      → ◌≡◌ {A = Started} (record { answer = Err ParameterCount; store = store }) (counted x params store)
   unfolding counted counts_verdict after
   counted-params e n = sym (rw (eq-eqb (length store) (length x.variables) e, ne_eqb (length params) (parameter_count x.variables) n))
 
@@ -133,10 +120,10 @@ module _ (s : List ℕ) (params store : List ℤ) {v : Verdict} (f : v ≡ image
   unfolding start_verdict counts_verdict values_verdict parameters_verdict condition_verdict right_at
   start_is = rw f
 
-  pub start-refused : (y : Refusal) → v ≡ Refused y → ◌≡◌ {A = Started} (record { answer = v; store = store }) (start s params store)
+  pub start-refused : (y : Refusal) → v ≡ Err y → ◌≡◌ {A = Started} (record { answer = v; store = store }) (start s params store)
   unfolding start
   start-refused y e = sym (rw (start_is, after-refused v _ y e, e))
 
-  pub start-counted : {r : Started} → v ≡ Accepted → r ≡ counted (tables_of s) params store → r ≡ start s params store
+  pub start-counted : {r : Started} → v ≡ Ok tt → r ≡ counted (tables_of s) params store → r ≡ start s params store
   unfolding start counted
   start-counted e g = g ∙ sym (rw (start_is, after-accepted v _ e))

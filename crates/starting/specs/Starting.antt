@@ -2,8 +2,8 @@
 use mathlib.Core.{Path.◌≡◌, Bool.Bool, Bool.cond, Bool.not, Bool.◌||◌, List.List}
 use Rattle.std.specs.Prelude.{ℕ, ◌<◌}
 use lib.{Dec.eqb, IntN.ℤ, IntN.pos, ListN.length, ListN.get_or}
-use Rattle.model.specs.declared.{Image.Image, Verdict.Verdict, Refusal.TheVariants.StoreLength, Refusal.TheVariants.ParameterCount, Refusal.TheVariants.ParameterValue, Refusal.TheVariants.ConditionFalse}
-use Rattle.model.specs.Answers.{variable, after, unless, each}
+use Rattle.model.specs.declared.{Image.Image, Refusal.TheVariants.StoreLength, Refusal.TheVariants.ParameterCount, Refusal.TheVariants.ParameterValue, Refusal.TheVariants.ConditionFalse}
+use Rattle.model.specs.Answers.{variable, after, unless, each, Verdict}
 use Rattle.model.specs.Values.{half16, mark}
 use Rattle.model.specs.Image.{Tables, tables_of}
 use Rattle.model.specs.Calls.{parameter_count, started, slot_of_type, is_parameter, holds, Started, started_as}

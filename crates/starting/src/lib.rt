@@ -1,30 +1,27 @@
 // The start of an automaton: 1 to 9, then 13 to 16, and the store of an automaton that starts.
 #![tactic(auto)]
 
+ghost use Rattle.image.specs.Located.{tables};
 ghost use Rattle.std.specs.Prelude.{◌≡◌, length};
-ghost use Rattle.model.specs.Image.{tables_of};
 ghost use Rattle.model.specs.Calls.{parameter_count, started, start};
 ghost use Rattle.stages.specs.Judging.{Cleared};
 ghost use Rattle.starting.specs.Starting.{given_to, right_at, parameters_verdict, condition_verdict, values_verdict, begun, counted, Slotted, SlotOf, Given, Filling, Typed, Filled, Begins};
 
 use expressions::test;
-use image::{parameter, size, trailer, variable_count, variable_type};
-use model::{Image, Refusal, Tested, Variable, Verdict};
+use image::{Automaton, trailer};
+use model::{Image, Refusal, Tested, Variable};
 use stages::image_verdict;
 use values::of_size;
-use words::copy;
 
 // How many variables are parameters.
-fn parameter_count(image: &[u8], i: Image) -> usize
-    requires { Cleared image.now i }
-    ensures { result ≡ parameter_count (tables_of image.now).variables }
+fn parameter_count(x: &Automaton) -> usize
+    requires { Cleared x.now.image.now x.now.trailer }
+    ensures { result ≡ parameter_count (tables x.now).variables }
 {
-    let count = variable_count(image, i);
+    let count = x.variable_count();
     let mut n: usize = 0;
-    let mut v: u16 = 0;
-    while v < count {
-        n += parameter(image, i, v) as usize;
-        v += 1;
+    for v in 0..count {
+        n += x.parameter(v) as usize;
     }
     n
 }
@@ -38,123 +35,112 @@ fn given(p: u16, params: &[i32], k: usize) -> i32
 }
 
 // The store of an automaton that starts.
-fn fill(image: &[u8], i: Image, params: &[i32], work: &mut [i32])
-    requires { Filling image.now i params.now work.old }
-    ensures { work.new ≡ started (tables_of image.now) params.now }
+fn fill(x: &Automaton, params: &[i32], work: &mut [i32])
+    requires { Filling x.now.image.now x.now.trailer params.now work.old }
+    ensures { work.new ≡ started (tables x.now) params.now }
 {
-    let count = variable_count(image, i);
+    let count = x.variable_count();
     let mut k: usize = 0;
-    let mut v: u16 = 0;
-    while v < count {
-        let p = parameter(image, i, v);
+    for v in 0..count {
+        let p = x.parameter(v);
         work[v as usize] = given(p, params, k);
         k += p as usize;
-        v += 1;
     }
 }
 
 // Whether a variable is no parameter, or has a value of its type.
-fn right(image: &[u8], i: Image, work: &[i32], v: u16) -> bool
-    requires { SlotOf image.now i work.now v }
-    ensures { result ≡ right_at (tables_of image.now) work.now v }
+fn right(x: &Automaton, work: &[i32], v: u16) -> bool
+    requires { SlotOf x.now.image.now x.now.trailer work.now v }
+    ensures { result ≡ right_at (tables x.now) work.now v }
 {
-    if parameter(image, i, v) != 1 {
+    if x.parameter(v) != 1 {
         return true;
     }
-    let t = variable_type(image, i, v);
-    of_size(Image::HALF, size(image, i, t), work[v as usize])
+    let t = x.variable_type(v);
+    of_size(Image::HALF, x.size(t), work[v as usize])
 }
 
 // 15: the lowest parameter outside its type.
-fn parameter_verdict(image: &[u8], i: Image, work: &[i32]) -> Verdict
-    requires { Slotted image.now i work.now }
-    ensures { result ≡ parameters_verdict (tables_of image.now) work.now }
+fn parameter_verdict(x: &Automaton, work: &[i32]) -> Result<(), Refusal>
+    requires { Slotted x.now.image.now x.now.trailer work.now }
+    ensures { result ≡ parameters_verdict (tables x.now) work.now }
 {
-    let count = variable_count(image, i);
-    let mut v: u16 = 0;
-    while v < count {
-        if !right(image, i, work, v) {
-            return Verdict::Refused(Refusal::ParameterValue(Variable(v)));
-        }
-        v += 1;
+    let count = x.variable_count();
+    match (0..count).find(|v| !right(x, work, *v)) {
+        Some(v) => Err(Refusal::ParameterValue(Variable(v))),
+        None => Ok(()),
     }
-    Verdict::Accepted
 }
 
 // 16: the initial condition.
-fn condition(image: &[u8], i: Image, work: &[i32]) -> Verdict
-    requires { Typed image.now i work.now }
-    ensures { result ≡ condition_verdict (tables_of image.now) work.now }
+fn condition(x: &Automaton, work: &[i32]) -> Result<(), Refusal>
+    requires { Typed x.now.image.now x.now.trailer work.now }
+    ensures { result ≡ condition_verdict (tables x.now) work.now }
 {
-    match test(image, i.rows, i.condition, work) {
-        Tested::Holds => Verdict::Accepted,
-        Tested::Fails => Verdict::Refused(Refusal::ConditionFalse),
-        Tested::Unsure => Verdict::Refused(Refusal::ConditionFalse),
+    match test(x.image, x.trailer.rows, x.trailer.condition, work) {
+        Tested::Holds => Ok(()),
+        Tested::Fails => Err(Refusal::ConditionFalse),
+        Tested::Unsure => Err(Refusal::ConditionFalse),
     }
 }
 
 // 15 and 16.
-fn values_verdict(image: &[u8], i: Image, work: &[i32]) -> Verdict
-    requires { Filled image.now i work.now }
-    ensures { result ≡ values_verdict (tables_of image.now) work.now }
+fn values_verdict(x: &Automaton, work: &[i32]) -> Result<(), Refusal>
+    requires { Filled x.now.image.now x.now.trailer work.now }
+    ensures { result ≡ values_verdict (tables x.now) work.now }
 {
-    let v = parameter_verdict(image, i, work);
-    match v {
-        Verdict::Refused(_) => v,
-        Verdict::Accepted => condition(image, i, work),
-    }
+    parameter_verdict(x, work)?;
+    condition(x, work)
 }
 
 // 15 and 16 on a working copy that its caller lends: a refusal leaves the store alone.
-fn begin_on(image: &[u8], i: Image, params: &[i32], store: &mut [i32], work: &mut [i32]) -> Verdict
-    requires { Begins image.now i params.now store.old work.old }
-    ensures { record { answer = result; store = store.new } ≡ begun (tables_of image.now) params.now store.old }
+fn begin_on(
+    x: &Automaton,
+    params: &[i32],
+    store: &mut [i32],
+    work: &mut [i32],
+) -> Result<(), Refusal>
+    requires { Begins x.now.image.now x.now.trailer params.now store.old work.old }
+    ensures { record { answer = result; store = store.new } ≡ begun (tables x.now) params.now store.old }
 {
-    fill(image, i, params, work);
-    let v = values_verdict(image, i, work);
-    match v {
-        Verdict::Refused(_) => v,
-        Verdict::Accepted => {
-            copy(store, work);
-            v
-        }
-    }
+    fill(x, params, work);
+    values_verdict(x, work)?;
+    store.copy_from_slice(work);
+    Ok(())
 }
 
 // The working copy has a function of its own, so that no other one's facts carry its 64 slots.
-fn begin(image: &[u8], i: Image, params: &[i32], store: &mut [i32]) -> Verdict
-    requires { Filling image.now i params.now store.old }
-    ensures { record { answer = result; store = store.new } ≡ begun (tables_of image.now) params.now store.old }
+fn begin(x: &Automaton, params: &[i32], store: &mut [i32]) -> Result<(), Refusal>
+    requires { Filling x.now.image.now x.now.trailer params.now store.old }
+    ensures { record { answer = result; store = store.new } ≡ begun (tables x.now) params.now store.old }
 {
     let mut work = [0i32; Image::VARIABLES as usize];
     let n = store.len();
-    begin_on(image, i, params, store, &mut work[..n])
+    begin_on(x, params, store, &mut work[..n])
 }
 
 // 13 and 14, then the values.
-fn count(image: &[u8], i: Image, params: &[i32], store: &mut [i32]) -> Verdict
-    requires { Cleared image.now i }
-    ensures { record { answer = result; store = store.new } ≡ counted (tables_of image.now) params.now store.old }
+fn count(x: &Automaton, params: &[i32], store: &mut [i32]) -> Result<(), Refusal>
+    requires { Cleared x.now.image.now x.now.trailer }
+    ensures { record { answer = result; store = store.new } ≡ counted (tables x.now) params.now store.old }
 {
-    if store.len() != variable_count(image, i) as usize {
-        return Verdict::Refused(Refusal::StoreLength);
+    if store.len() != x.variable_count() as usize {
+        return Err(Refusal::StoreLength);
     }
-    if params.len() != parameter_count(image, i) {
-        return Verdict::Refused(Refusal::ParameterCount);
+    if params.len() != parameter_count(x) {
+        return Err(Refusal::ParameterCount);
     }
-    begin(image, i, params, store)
+    begin(x, params, store)
 }
 
 // The verdict on an image, parameter values and a store, and where it is accepted the store that the automaton starts with.
-pub fn start(image: &[u8], params: &[i32], store: &mut [i32]) -> Verdict
+pub fn start(image: &[u8], params: &[i32], store: &mut [i32]) -> Result<(), Refusal>
     ensures { record { answer = result; store = store.new } ≡ start image.now params.now store.old }
 {
-    let v = image_verdict(image);
-    match v {
-        Verdict::Refused(_) => v,
-        Verdict::Accepted => {
-            let i = trailer(image);
-            count(image, i, params, store)
-        }
-    }
+    image_verdict(image)?;
+    let x = Automaton {
+        image,
+        trailer: trailer(image),
+    };
+    count(&x, params, store)
 }

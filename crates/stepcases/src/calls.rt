@@ -1,8 +1,10 @@
 // A case's call, and its answer written.
+ghost use Rattle.std.specs.Prelude.{◌≤◌, length};
+
 use crate::answer;
-use crate::build::{Length, build};
-use crate::scan::{Reading, sections};
-use model::{State, Stepped, Verdict};
+use bstr::ByteSlice;
+use model::State;
+use sections::{Case, Section, read_case};
 use starting::start;
 use std::io;
 use stepping::take_step;
@@ -22,148 +24,108 @@ const OLD: i32 = -286331154;
 
 // A start: the parameters are the words given. The store is lent by its first words alone, so that a write past its end
 // shows behind them.
-fn begun(
+fn begin(
     rt: &impl Print,
     image: &[u8],
-    params: &[i32],
-    count: usize,
-    store: &mut [i32],
     room: usize,
+    store: &mut [i32],
+    given: &[u8],
     before: &[i32],
-) -> io::Result<()> {
-    if params.len() < count {
-        return answer::text(rt, b" bad line");
+) -> io::Result<()>
+    requires { room ≤ length store.old }
+{
+    let mut params = [0i32; WORDS];
+    let count = given.len() / 4;
+    if WORDS < count {
+        return answer::bad_line(rt);
     }
-    if store.len() < room {
-        return answer::text(rt, b" bad line");
-    }
+    get_words(&mut params[..count], given);
     let v = start(image, &params[..count], &mut store[..room]);
     match v {
-        Verdict::Refused(y) => {
+        Err(y) => {
             answer::refused(rt, y)?;
             answer::stays(rt, store, before, 0)
         }
-        Verdict::Accepted => {
-            answer::text(rt, b" started")?;
+        Ok(()) => {
+            rt.write_all(b" started")?;
             answer::words(rt, store, room)?;
             answer::stays(rt, store, before, room)
         }
     }
 }
 
-fn begin(
-    rt: &impl Print,
-    image: &[u8],
-    s: Reading,
-    store: &mut [i32],
-    given: &[u8],
-    before: &[i32],
-) -> io::Result<()> {
-    let mut params = [0i32; WORDS];
-    let count = s.given / 4;
-    if WORDS < count {
-        return answer::text(rt, b" bad line");
-    }
-    if given.len() < 4 * count {
-        return answer::text(rt, b" bad line");
-    }
-    get_words(&mut params, given, count);
-    begun(rt, image, &params, count, store, s.store, before)
-}
-
 // A step, its store and its label lent in the same way.
-fn stepped(
-    rt: &impl Print,
-    image: &[u8],
-    s: Reading,
-    store: &mut [i32],
-    given: &[u8],
-    label: &mut [i32],
-    before: &[i32],
-    old: &[i32],
-) -> io::Result<()> {
-    let room = s.store;
-    let bytes = s.given;
-    let ten = s.label as usize;
-    if given.len() < bytes {
-        return answer::text(rt, b" bad line");
-    }
-    if store.len() < room {
-        return answer::text(rt, b" bad line");
-    }
-    if label.len() < ten {
-        return answer::text(rt, b" bad line");
-    }
-    let state = s.state;
-    if 65535 < state {
-        return answer::text(rt, b" bad line");
-    }
-    let r = take_step(
-        image,
-        State(state as u16),
-        &mut store[..room],
-        &given[..bytes],
-        s.budget,
-        &mut label[..ten],
-    );
-    match r {
-        Stepped::NotMoved(y) => {
-            answer::refused(rt, y)?;
-            answer::stays(rt, store, before, 0)?;
-            answer::stays(rt, label, old, 0)
-        }
-        Stepped::Moved(m) => {
-            answer::moved(rt, m)?;
-            answer::words(rt, store, room)?;
-            answer::words(rt, label, 10)?;
-            answer::stays(rt, store, before, room)?;
-            answer::stays(rt, label, old, 10)
-        }
-    }
-}
-
 fn step(
     rt: &impl Print,
     image: &[u8],
-    s: Reading,
+    c: Case,
     store: &mut [i32],
     given: &[u8],
     before: &[i32],
-) -> io::Result<()> {
-    let mut label = [OLD; LABEL];
+) -> io::Result<()>
+    requires { c.store ≤ length store.old }
+{
     let old = [OLD; LABEL];
-    stepped(rt, image, s, store, given, &mut label, before, &old)
-}
-
-// The call that a reading is for: sections from 2 on are a start's, from 1 on a step's.
-fn call(
-    rt: &impl Print,
-    image: &[u8],
-    length: usize,
-    section: u16,
-    s: Reading,
-    store: &mut [i32],
-    given: &[u8],
-    before: &[i32],
-) -> io::Result<()> {
-    if image.len() < length {
-        return answer::text(rt, b" bad line");
+    let mut label = old;
+    let (Ok(q), Some(lent)) = (u16::try_from(c.state), label.get_mut(..c.label as usize)) else {
+        return answer::bad_line(rt);
+    };
+    let r = take_step(
+        image,
+        State(q),
+        &mut store[..c.store],
+        given,
+        c.budget,
+        lent,
+    );
+    match r {
+        Err(y) => {
+            answer::refused(rt, y)?;
+            answer::stays(rt, store, before, 0)?;
+            answer::stays(rt, &label, &old, 0)
+        }
+        Ok(m) => {
+            answer::moved(rt, m)?;
+            answer::words(rt, store, c.store)?;
+            answer::words(rt, &label, 10)?;
+            answer::stays(rt, store, before, c.store)?;
+            answer::stays(rt, &label, &old, 10)
+        }
     }
-    if section == 1 {
-        return begin(rt, &image[..length], s, store, given, before);
-    }
-    step(rt, &image[..length], s, store, given, before)
 }
 
 // A line's case, its name already written. All buffers are new for each, so that no case sees another.
-pub(crate) fn case(rt: &impl Print, line: &[u8], from: usize, section: u16) -> io::Result<()> {
+fn case(rt: &impl Print, sections: &[u8], first: Section) -> io::Result<()> {
     let mut image = [0u8; IMAGE];
     let mut given = [0u8; GIVEN];
     let mut store = [OLD; WORDS];
-    let s = sections(line, from, section, &mut image, &mut store, &mut given);
+    let Some(c) = read_case(sections, first, &mut image, &mut store, &mut given) else {
+        return answer::bad_line(rt);
+    };
     let before = store;
-    match build(s, &mut image) {
-        Length::Bad => answer::text(rt, b" bad line"),
-        Length::Bytes(n) => call(rt, &image, n, section, s, &mut store, &given, &before),
+    let image = &image[..c.image];
+    let given = &given[..c.given];
+    if first == Section::Store {
+        return begin(rt, image, c.store, &mut store, given, &before);
     }
+    step(rt, image, c, &mut store, given, &before)
+}
+
+// Text that is no case is written as it stands, so that the lines of input and output go together.
+pub(crate) fn line(rt: &impl Print, text: &[u8]) -> io::Result<()> {
+    if let None | Some(b'#') = text.first() {
+        rt.write_all(text)?;
+        return rt.write_all(b"\n");
+    }
+    let (name, call) = text.rsplit_once_str(b":").unwrap_or((text, b""));
+    rt.write_all(name)?;
+    rt.write_all(b":")?;
+    if let Some(sections) = call.strip_prefix(b" start |") {
+        case(rt, sections, Section::Store)?;
+    } else if let Some(sections) = call.strip_prefix(b" step |") {
+        case(rt, sections, Section::Numbers)?;
+    } else {
+        answer::bad_line(rt)?;
+    }
+    rt.write_all(b"\n")
 }

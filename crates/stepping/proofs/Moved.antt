@@ -1,9 +1,11 @@
 -- What a step's answer says of the store and the label after it. Assumes nothing.
+use Rattle.std.specs.Prelude.{Ok, Err}
+use Rattle.model.specs.Answers.{Verdict}
 use mathlib.Core.{Path.◌≡◌, Path.refl, Path.sym, Path.ap, Path.◌∙◌, List.List, List.◌++◌}
 use Prim.Native.Nat.{ℕ, ◌-◌, ◌^◌, ◌<◌}
 use native.Mathlib.Omega.{arith}
 use lib.{IntN.ℤ, ListN.drop}
-use Rattle.model.specs.declared.{State.State, Move.Move, Verdict.Verdict, Verdict.TheVariants.Accepted, Verdict.TheVariants.Refused, Refusal.Refusal, Stepped.TheVariants.Moved, Stepped.TheVariants.NotMoved, Outcome.Outcome, Outcome.TheVariants.Ends, Outcome.TheVariants.Jumps, Outcome.TheVariants.Stops}
+use Rattle.model.specs.declared.{State.State, Move.Move, Refusal.Refusal, Outcome.Outcome, Outcome.TheVariants.Ends, Outcome.TheVariants.Jumps, Outcome.TheVariants.Stops}
 use Rattle.model.specs.Image.{tables_of}
 use Rattle.model.specs.Decode.{act}
 use Rattle.model.specs.Run.{ε, label_words, St, Res, gives, blocked_at}
@@ -19,7 +21,7 @@ use Rattle.stepping.proofs.Steps.{left_over}
 use Rattle.stepping.proofs.Trying.{root-of}
 
 -- by how a run ended
-as-out : (o : Outcome) (u : St) (at budget : ℕ) (m label : List ℤ) (y : Refusal) → (moved_as (gives o u) at budget m label).answer ≡ NotMoved y
+as-out : (o : Outcome) (u : St) (at budget : ℕ) (m label : List ℤ) (y : Refusal) → (moved_as (gives o u) at budget m label).answer ≡ Err y
     → moved_as (gives o u) at budget m label ≡ stayed y m label
 unfolding moved_as
 as-out Ends u at budget m label y e = let k : blocked_at at u.label ≡ y = cc in rw k
@@ -38,7 +40,7 @@ pub record IsMove (u : St) (m label : List ℤ) (k : Move) (d : StepDone) : Type
   pub store : d.store ≡ u.store
   pub says : d.label ≡ label_words u.label ++ drop 10 label
 
-move-out : (o : Outcome) (u : St) (at budget : ℕ) (m label : List ℤ) (k : Move) → (moved_as (gives o u) at budget m label).answer ≡ Moved k
+move-out : (o : Outcome) (u : St) (at budget : ℕ) (m label : List ℤ) (k : Move) → (moved_as (gives o u) at budget m label).answer ≡ Ok k
     → IsMove u m label k (moved_as (gives o u) at budget m label)
 unfolding moved_as
 move-out Ends u at budget m label k e = let z : ◌≡◌ {A = ℕ} 0 1 = cc in absurd (omega arith)
@@ -55,39 +57,39 @@ module _ (s : List ℕ) (q : State) (m : List ℤ) (script : List ℕ) (budget :
   unfolding step
   by-verdict v e = ap (λ (u : Verdict). stepped_as u (ran (tables_of s) q m script budget label) m label) e
 
-  pub not-moved : (y : Refusal) → (step s q m script budget label).answer ≡ NotMoved y → step s q m script budget label ≡ stayed y m label
+  pub not-moved : (y : Refusal) → (step s q m script budget label).answer ≡ Err y → step s q m script budget label ≡ stayed y m label
   unfolding run
   not-moved y e = go (step_verdict s q m budget label) refl
     where
       go : (v : Verdict) → step_verdict s q m budget label ≡ v → step s q m script budget label ≡ stayed y m label
-      go Accepted f =
-          let b = by-verdict Accepted f in
+      go (Ok tt) f =
+          let b = by-verdict (Ok tt) f in
           b ∙ as-out run.out run.st _ budget m label y (ap (λ (d : StepDone). d.answer) (sym b) ∙ e)
-      go (Refused z) f =
-          let b = by-verdict (Refused z) f in
-          let g : NotMoved z ≡ NotMoved y = ap (λ (d : StepDone). d.answer) (sym b) ∙ e in
+      go (Err z) f =
+          let b = by-verdict (Err z) f in
+          let g : Err z ≡ Err y = ap (λ (d : StepDone). d.answer) (sym b) ∙ e in
           let k : z ≡ y = cc in
           b ∙ rw k
 
   pub record Moves (k : Move) : Type 0 where
-    pub passed : step_verdict s q m budget label ≡ Accepted
+    pub passed : step_verdict s q m budget label ≡ Ok tt
     pub move : IsMove (attempt (tables_of s) q.0 m script budget).st m label k (step s q m script budget label)
 
-  pub moves : (k : Move) → (step s q m script budget label).answer ≡ Moved k → Moves k
+  pub moves : (k : Move) → (step s q m script budget label).answer ≡ Ok k → Moves k
   unfolding run
   moves k e = go (step_verdict s q m budget label) refl
     where
       go : (v : Verdict) → step_verdict s q m budget label ≡ v → Moves k
-      go Accepted f =
-          let b = by-verdict Accepted f in
+      go (Ok tt) f =
+          let b = by-verdict (Ok tt) f in
           record { passed = f; move = rw b (move-out run.out run.st _ budget m label k (ap (λ (d : StepDone). d.answer) (sym b) ∙ e)) }
-      go (Refused z) f =
-          let b = by-verdict (Refused z) f in
-          let g : NotMoved z ≡ Moved k = ap (λ (d : StepDone). d.answer) (sym b) ∙ e in
+      go (Err z) f =
+          let b = by-verdict (Err z) f in
+          let g : Err z ≡ Ok k = ap (λ (d : StepDone). d.answer) (sym b) ∙ e in
           let n : ◌≡◌ {A = ℕ} 0 1 = cc in absurd (omega arith)
 
   -- the words of a move are few
-  pub moved-words : AreBytes s → (k : Move) → (step s q m script budget label).answer ≡ Moved k → k.words < 2 ^ 23
+  pub moved-words : AreBytes s → (k : Move) → (step s q m script budget label).answer ≡ Ok k → k.words < 2 ^ 23
   unfolding step_verdict attempt
   moved-words b k e =
       let v = moves k e in
@@ -100,14 +102,14 @@ module _ (s : List ℕ) (q : State) (m : List ℤ) (script : List ℕ) (budget :
 
 -- the label's buffer decides no answer, where it is long enough
 pub same_answer : (s : List ℕ) (q p : State) (m k : List ℤ) (script : List ℕ) (budget : ℕ) (label ten : List ℤ) → step_verdict s p k budget ten ≡ step_verdict s q m budget label
-    → (step_verdict s q m budget label ≡ Accepted → (k ≡ m) × (p ≡ q)) → (step s p k script budget ten).answer ≡ (step s q m script budget label).answer
+    → (step_verdict s q m budget label ≡ Ok tt → (k ≡ m) × (p ≡ q)) → (step s p k script budget ten).answer ≡ (step s q m script budget label).answer
 same_answer s q p m k script budget label ten e h = go (step_verdict s q m budget label) refl
   where
     go : (v : Verdict) → step_verdict s q m budget label ≡ v → (step s p k script budget ten).answer ≡ (step s q m script budget label).answer
-    go Accepted f =
+    go (Ok tt) f =
         let w = h f in
         let r = attempt (tables_of s) q.0 m script budget in
-        ap (λ (d : StepDone). d.answer) (by-verdict s p k script budget ten Accepted (e ∙ f)) ∙ rw (w.0, w.1) (same_out r.out r.st _ budget m ten label)
-        ∙ ap (λ (d : StepDone). d.answer) (sym (by-verdict s q m script budget label Accepted f))
-    go (Refused y) f =
-        ap (λ (d : StepDone). d.answer) (by-verdict s p k script budget ten (Refused y) (e ∙ f)) ∙ ap (λ (d : StepDone). d.answer) (sym (by-verdict s q m script budget label (Refused y) f))
+        ap (λ (d : StepDone). d.answer) (by-verdict s p k script budget ten (Ok tt) (e ∙ f)) ∙ rw (w.0, w.1) (same_out r.out r.st _ budget m ten label)
+        ∙ ap (λ (d : StepDone). d.answer) (sym (by-verdict s q m script budget label (Ok tt) f))
+    go (Err y) f =
+        ap (λ (d : StepDone). d.answer) (by-verdict s p k script budget ten (Err y) (e ∙ f)) ∙ ap (λ (d : StepDone). d.answer) (sym (by-verdict s q m script budget label (Err y) f))

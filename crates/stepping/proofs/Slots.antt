@@ -1,13 +1,14 @@
 -- 18, slot by slot. Assumes nothing.
+use Rattle.std.specs.Prelude.{Ok, Err}
 use mathlib.Core.{Path.◌≡◌, Path.sym, Path.ap, Path.◌∙◌, Bool.Bool, Bool.true, Bool.false, Bool.◌||◌, List.List}
-use Prim.Native.Nat.{ℕ, ◌+◌, ◌^◌, ◌≤◌, ◌<◌}
+use Prim.Native.Nat.{ℕ, ◌^◌, ◌≤◌, ◌<◌}
 use native.Mathlib.Omega.{arith}
 use lib.{Dec.eqb, Dec.leb, Dec.ltb, IntN.ℤ, IntN.pos, ListN.length, ListN.get_or, Signed.mag}
 use mir.{Syntax.w32, Val.to_z, Val.of_z}
 use borrow.Author.Tests.{lt-ltb, le-ltb, lt-leb, le-leb, eq-eqb, ne_eqb}
-use Rattle.model.specs.declared.{Image.Image, State.State, Verdict.Verdict, Verdict.TheVariants.Accepted, Verdict.TheVariants.Refused, Refusal.Refusal, Refusal.TheVariants.NoState, Refusal.TheVariants.StoreLength, Refusal.TheVariants.SlotValue, Refusal.TheVariants.LabelShort, Refusal.TheVariants.BudgetOver}
-use Rattle.model.specs.Answers.{variable, after, unless, lowest}
-use Rattle.model.proofs.Order.{after-accepted, after-refused, lowest-full, lowest-pass, each-full, each-refuses}
+use Rattle.model.specs.declared.{Image.Image, State.State, Refusal.Refusal, Refusal.TheVariants.NoState, Refusal.TheVariants.StoreLength, Refusal.TheVariants.LabelShort, Refusal.TheVariants.BudgetOver}
+use Rattle.model.specs.Answers.{variable, after, unless, Verdict}
+use Rattle.model.proofs.Order.{after-accepted, after-refused}
 use Rattle.model.specs.Values.{half16, mark, same, of_size}
 use Rattle.model.specs.Image.{tables_of, size_of, entry_of}
 use Rattle.model.specs.Run.{slot}
@@ -57,33 +58,17 @@ module _ {s : List ℕ} {i : Image} {m : List ℤ} {v : ℕ} (h : SlotIn s i m v
       let q : same (slot (tables_of s) m (variable v)) (mark half16) ≡ false = rw (held-slot e) d in
       l ∙ rw (held-is z b, k, g, ← held-slot e) (sym (ap (λ (y : Bool). y || slot_of_type (tables_of s) m v) q))
 
--- the loop over the slots
-module _ {s : List ℕ} {i : Image} {m : List ℤ} (h : Slotted s i m) where
-  pub none_yet : lowest (slot_fits (tables_of s) m) 0 ≡ 0
-  none_yet = lowest-full (slot_fits (tables_of s) m) 0 (λ k l. absurd (omega arith))
-
-  pub one_more : (v : ℕ) {b : Bool} → lowest (slot_fits (tables_of s) m) v ≡ v → b ≡ slot_fits (tables_of s) m v → b ≡ true → lowest (slot_fits (tables_of s) m) (v + 1) ≡ v + 1
-  one_more v {b} e f t = lowest-pass (slot_fits (tables_of s) m) v e (sym f ∙ t)
-
-  pub wrong-here : (v : ℕ) {b : Bool} → v < length (tables_of s).variables → lowest (slot_fits (tables_of s) m) v ≡ v → b ≡ slot_fits (tables_of s) m v → b ≡ false
-      → Refused (SlotValue (variable v)) ≡ slots_verdict (tables_of s) m
-  wrong-here v {b} l e f t =
-      sym (each-refuses (slot_fits (tables_of s) m) (length (tables_of s).variables) _ v e l (sym f ∙ t))
-
-  pub all_fit : (v : ℕ) → v ≡ length (tables_of s).variables → lowest (slot_fits (tables_of s) m) v ≡ v → Accepted ≡ slots_verdict (tables_of s) m
-  all_fit v n e = sym (each-full (slot_fits (tables_of s) m) (length (tables_of s).variables) _ (rw (← n) e))
-
 -- 17 to 20
 module _ {s : List ℕ} {i : Image} (h : Cleared s i) (q : State) (m : List ℤ) (budget : ℕ) (label : List ℤ) where
-  pub no-state : length (tables_of s).states ≤ q.0 → Refused NoState ≡ run_verdict (tables_of s) q m budget label
+  pub no-state : length (tables_of s).states ≤ q.0 → Err NoState ≡ run_verdict (tables_of s) q m budget label
   no-state l =
       sym (after-refused _ _ NoState (ap (λ (b : Bool). unless b NoState) (le-ltb q.0 (length (tables_of s).states) l)))
 
   module _ (l : q.0 < length (tables_of s).states) where
-    state-passed : unless (ltb q.0 (length (tables_of s).states)) NoState ≡ Accepted
+    state-passed : unless (ltb q.0 (length (tables_of s).states)) NoState ≡ Ok tt
     state-passed = ap (λ (b : Bool). unless b NoState) (lt-ltb q.0 (length (tables_of s).states) l)
 
-    pub store-wrong : (length m ≡ length (tables_of s).variables → ⊥) → Refused StoreLength ≡ run_verdict (tables_of s) q m budget label
+    pub store-wrong : (length m ≡ length (tables_of s).variables → ⊥) → Err StoreLength ≡ run_verdict (tables_of s) q m budget label
     store-wrong f =
         let e = ne_eqb (length m) (length (tables_of s).variables) f in
         sym (after-accepted _ _ state-passed ∙ after-refused _ _ StoreLength (ap (λ (b : Bool). unless b StoreLength) e))
@@ -92,27 +77,27 @@ module _ {s : List ℕ} {i : Image} (h : Cleared s i) (q : State) (m : List ℤ)
       pub slotted : Slotted s i m
       slotted = record { cleared = h; size = e }
 
-      store-passed : unless (eqb (length m) (length (tables_of s).variables)) StoreLength ≡ Accepted
+      store-passed : unless (eqb (length m) (length (tables_of s).variables)) StoreLength ≡ Ok tt
       store-passed = ap (λ (b : Bool). unless b StoreLength) (eq-eqb (length m) (length (tables_of s).variables) e)
 
       to_slots : run_verdict (tables_of s) q m budget label ≡ after (slots_verdict (tables_of s) m) (room_verdict budget label)
       to_slots = after-accepted _ _ state-passed ∙ after-accepted _ _ store-passed
 
-      pub slot-wrong : {v : Verdict} (y : Refusal) → v ≡ slots_verdict (tables_of s) m → v ≡ Refused y → v ≡ run_verdict (tables_of s) q m budget label
+      pub slot-wrong : {v : Verdict} (y : Refusal) → v ≡ slots_verdict (tables_of s) m → v ≡ Err y → v ≡ run_verdict (tables_of s) q m budget label
       slot-wrong y f g = g ∙ sym (to_slots ∙ after-refused _ _ y (sym f ∙ g))
 
-      module _ {v : Verdict} (f : v ≡ slots_verdict (tables_of s) m) (g : v ≡ Accepted) where
+      module _ {v : Verdict} (f : v ≡ slots_verdict (tables_of s) m) (g : v ≡ Ok tt) where
         to_room : run_verdict (tables_of s) q m budget label ≡ room_verdict budget label
         to_room = to_slots ∙ after-accepted _ _ (sym f ∙ g)
 
-        pub label-short : length label < 10 → Refused LabelShort ≡ run_verdict (tables_of s) q m budget label
+        pub label-short : length label < 10 → Err LabelShort ≡ run_verdict (tables_of s) q m budget label
         label-short k = sym (to_room ∙ after-refused _ _ LabelShort (ap (λ (b : Bool). unless b LabelShort) (lt-leb 10 (length label) k)))
 
-        label-passed : 10 ≤ length label → unless (leb 10 (length label)) LabelShort ≡ Accepted
+        label-passed : 10 ≤ length label → unless (leb 10 (length label)) LabelShort ≡ Ok tt
         label-passed k = ap (λ (b : Bool). unless b LabelShort) (le-leb 10 (length label) k)
 
-        pub budget-over : 10 ≤ length label → 1000000 < budget → Refused BudgetOver ≡ run_verdict (tables_of s) q m budget label
+        pub budget-over : 10 ≤ length label → 1000000 < budget → Err BudgetOver ≡ run_verdict (tables_of s) q m budget label
         budget-over k b = sym (to_room ∙ after-accepted _ _ (label-passed k) ∙ ap (λ (t : Bool). unless t BudgetOver) (lt-leb budget 1000000 b))
 
-        pub nothing-wrong : 10 ≤ length label → budget ≤ 1000000 → Accepted ≡ run_verdict (tables_of s) q m budget label
+        pub nothing-wrong : 10 ≤ length label → budget ≤ 1000000 → Ok tt ≡ run_verdict (tables_of s) q m budget label
         nothing-wrong k b = sym (to_room ∙ after-accepted _ _ (label-passed k) ∙ ap (λ (t : Bool). unless t BudgetOver) (le-leb budget 1000000 b))

@@ -1,11 +1,12 @@
 -- A step that runs: what its refusals leave, and what is written back. Assumes nothing.
+use Rattle.std.specs.Prelude.{Ok, Err}
 use mathlib.Core.{Path.◌≡◌, Path.refl, Path.sym, Path.ap, Path.◌∙◌, Bool.true, List.List}
 use Prim.Native.Nat.{ℕ, ◌^◌, ◌≤◌, ◌<◌}
 use native.Mathlib.Omega.{arith}
 use lib.{Dec.eqb, Dec.leb, Dec.ltb, IntN.ℤ, ListN.length, ListN.get_or}
 use borrow.Author.Tests.{ltb-true, leb-true, eqb-true}
-use Rattle.model.specs.declared.{Image.Image, State.State, Verdict.Verdict, Verdict.TheVariants.Accepted, Verdict.TheVariants.Refused, Refusal.Refusal, Refusal.TheVariants.NoState, Refusal.TheVariants.StoreLength, Refusal.TheVariants.LabelShort, Refusal.TheVariants.BudgetOver}
-use Rattle.model.specs.Answers.{after, unless}
+use Rattle.model.specs.declared.{Image.Image, State.State, Refusal.Refusal, Refusal.TheVariants.NoState, Refusal.TheVariants.StoreLength, Refusal.TheVariants.LabelShort, Refusal.TheVariants.BudgetOver}
+use Rattle.model.specs.Answers.{after, unless, Verdict}
 use Rattle.model.specs.Image.{none, tables_of}
 use Rattle.model.specs.Rows.{action, is_kind}
 use Rattle.model.specs.Decode.{act}
@@ -31,7 +32,7 @@ pub record Left (s : List ℕ) (q : State) (m : List ℤ) (budget : ℕ) (label 
   pub room : 10 ≤ length label
   pub few : budget ≤ 1000000
 
-pub left_over : (s : List ℕ) (q : State) (m : List ℤ) (n : ℕ) (label : List ℤ) → run_verdict (tables_of s) q m n label ≡ Accepted → Left s q m n label
+pub left_over : (s : List ℕ) (q : State) (m : List ℤ) (n : ℕ) (label : List ℤ) → run_verdict (tables_of s) q m n label ≡ Ok tt → Left s q m n label
 left_over s q m n label e =
     let x = tables_of s in
     let a = after_both (unless (ltb q.0 (length x.states)) NoState) _ e in
@@ -96,18 +97,18 @@ module _ (s : List ℕ) (q : State) (store : List ℤ) (script : List ℕ) (budg
   unfolding step
   by-verdict v e = ap (λ (u : Verdict). stepped_as u (ran (tables_of s) q store script budget label) store label) e
 
-  pub image-refuses : {v : Verdict} (y : Refusal) → v ≡ image_verdict s → v ≡ Refused y → stayed y store label ≡ step s q store script budget label
-  image-refuses y f e = sym (by-verdict (Refused y) (verdict-is ∙ after-refused (image_verdict s) _ y (sym f ∙ e)))
+  pub image-refuses : {v : Verdict} (y : Refusal) → v ≡ image_verdict s → v ≡ Err y → stayed y store label ≡ step s q store script budget label
+  image-refuses y f e = sym (by-verdict (Err y) (verdict-is ∙ after-refused (image_verdict s) _ y (sym f ∙ e)))
 
-  module _ {v : Verdict} (f : v ≡ image_verdict s) (e : v ≡ Accepted) where
-    pub run-refuses : {w : Verdict} (y : Refusal) → w ≡ run_verdict (tables_of s) q store budget label → w ≡ Refused y → stayed y store label ≡ step s q store script budget label
-    run-refuses y g k = sym (by-verdict (Refused y) (verdict-is ∙ after-accepted (image_verdict s) _ (sym f ∙ e) ∙ sym g ∙ k))
+  module _ {v : Verdict} (f : v ≡ image_verdict s) (e : v ≡ Ok tt) where
+    pub run-refuses : {w : Verdict} (y : Refusal) → w ≡ run_verdict (tables_of s) q store budget label → w ≡ Err y → stayed y store label ≡ step s q store script budget label
+    run-refuses y g k = sym (by-verdict (Err y) (verdict-is ∙ after-accepted (image_verdict s) _ (sym f ∙ e) ∙ sym g ∙ k))
 
-    pub step-runs : {d : StepDone} → run_verdict (tables_of s) q store budget label ≡ Accepted → d ≡ ran (tables_of s) q store script budget label → d ≡ step s q store script budget label
-    step-runs g k = k ∙ sym (by-verdict Accepted (verdict-is ∙ after-accepted (image_verdict s) _ (sym f ∙ e) ∙ g))
+    pub step-runs : {d : StepDone} → run_verdict (tables_of s) q store budget label ≡ Ok tt → d ≡ ran (tables_of s) q store script budget label → d ≡ step s q store script budget label
+    step-runs g k = k ∙ sym (by-verdict (Ok tt) (verdict-is ∙ after-accepted (image_verdict s) _ (sym f ∙ e) ∙ g))
 
 -- what is lent and made
-pub to-runs : {s : List ℕ} {i : Image} {q : State} {m label : List ℤ} {budget : ℕ} {w : Verdict} → Cleared s i → w ≡ run_verdict (tables_of s) q m budget label → w ≡ Accepted
+pub to-runs : {s : List ℕ} {i : Image} {q : State} {m label : List ℤ} {budget : ℕ} {w : Verdict} → Cleared s i → w ≡ run_verdict (tables_of s) q m budget label → w ≡ Ok tt
     → Runs s i q m budget label
 to-runs h f e = record { cleared = h; passed = sym f ∙ e }
 

@@ -1,9 +1,10 @@
 -- The run that a step tries. Assumes nothing.
+use Rattle.std.specs.Prelude.{Ok}
 use mathlib.Core.{Path.◌≡◌, Path.ap, Path.◌∙◌, Bool.true, Bool.false, List.List}
 use Prim.Native.Nat.{ℕ, ◌<◌}
 use native.Mathlib.Omega.{arith}
 use lib.{Dec.ltb, IntN.ℤ, ListN.length, ListN.get_or}
-use Rattle.model.specs.declared.{Image.Image, Outcome.Outcome, Verdict.TheVariants.Accepted}
+use Rattle.model.specs.declared.{Image.Image, Outcome.Outcome}
 use Rattle.model.specs.Image.{none, tables_of}
 use Rattle.model.specs.Rows.{action, is_root, is_kind}
 use Rattle.model.specs.Decode.{action_at}
@@ -20,7 +21,7 @@ use Rattle.stepping.specs.Stepping.{Trying}
 use Rattle.stages.proofs.Cleared.{located}
 
 -- a state's row is an action
-pub root-of : (s : List ℕ) → image_verdict s ≡ Accepted → (q : ℕ) → q < length (tables_of s).states → is_kind (tables_of s) action (get_or (tables_of s).states q none) ≡ true
+pub root-of : (s : List ℕ) → image_verdict s ≡ Ok tt → (q : ℕ) → q < length (tables_of s).states → is_kind (tables_of s) action (get_or (tables_of s).states q none) ≡ true
 unfolding is_root
 root-of s e q h =
     (both_true (ltb (get_or (tables_of s).states q none) (length (tables_of s).rows)) _ ((passed s e).free.roots q h)).1
@@ -43,11 +44,9 @@ module _ {s : List ℕ} {i : Image} {q : ℕ} {m values : List ℤ} {budget : �
   unfolding attempt
   tries script e f = f ∙ ap (λ (k : ℕ). exec (tables_of s) (action_at (tables_of s) k) script (state_of (record { words = 0; left = budget; spoken = false; gate = 0; count = 0 }) m values)) e
 
-  -- the outcome and the state that the run handed on
-  pub tried : {r : ℕ} {o p : Outcome} {run now from : Run} (script : List ℕ) (n vs : List ℤ) → r ≡ get_or (tables_of s).states q none → o ≡ p → run ≡ now
-      → from ≡ record { words = 0; left = budget; spoken = false; gate = 0; count = 0 }
-      → result_of (record { out = p; run = now }) n vs ≡ exec (tables_of s) (action_at (tables_of s) r) script (state_of from m values)
+  -- the outcome that the run told
+  pub tried : {r : ℕ} {o p : Outcome} (run : Run) (script : List ℕ) (n vs : List ℤ) → r ≡ get_or (tables_of s).states q none → o ≡ p
+      → result_of (record { out = p; run = run }) n vs ≡ exec (tables_of s) (action_at (tables_of s) r) script (state_of (record { words = 0; left = budget; spoken = false; gate = 0; count = 0 }) m values)
       → result_of (record { out = o; run = run }) n vs ≡ attempt (tables_of s) q m script budget
-  tried {r = r} script n vs e f g k l =
-      (λ j. result_of (record { out = f j; run = g j }) n vs)
-      ∙ tries script e (l ∙ ap (λ (u : Run). exec (tables_of s) (action_at (tables_of s) r) script (state_of u m values)) k)
+  tried run script n vs e f l =
+      ap (λ (u : Outcome). result_of (record { out = u; run = run }) n vs) f ∙ tries script e l

@@ -1,10 +1,10 @@
 -- A step's refusals after 1 to 9, and what its functions ask. Assumes nothing.
 use mathlib.Core.{Path.◌≡◌, List.List}
-use Rattle.std.specs.Prelude.{ℕ, ◌≤◌, ◌<◌}
+use Rattle.std.specs.Prelude.{ℕ, ◌≤◌, ◌<◌, Ok}
 use lib.{Dec.eqb, Dec.leb, Dec.ltb, IntN.ℤ, ListN.length, ListN.get_or}
-use Rattle.model.specs.declared.{Image.Image, State.State, Verdict.Verdict, Verdict.TheVariants.Accepted, Refusal.TheVariants.StoreLength, Refusal.TheVariants.NoState, Refusal.TheVariants.SlotValue, Refusal.TheVariants.LabelShort, Refusal.TheVariants.BudgetOver}
+use Rattle.model.specs.declared.{Image.Image, State.State, Refusal.TheVariants.StoreLength, Refusal.TheVariants.NoState, Refusal.TheVariants.SlotValue, Refusal.TheVariants.LabelShort, Refusal.TheVariants.BudgetOver}
 use Rattle.model.specs.Limits.{limits}
-use Rattle.model.specs.Answers.{variable, after, unless, each}
+use Rattle.model.specs.Answers.{variable, after, unless, each, Verdict}
 use Rattle.model.specs.Image.{Tables, none, tables_of}
 use Rattle.model.specs.Calls.{slot_fits, StepDone, moved_as, attempt}
 use Rattle.model.specs.Run.{Res}
@@ -59,11 +59,11 @@ pub record Tried (p : Ran) (m j v u : List ℤ) (q : Res) : Type 0 where
 -- a step that nothing refuses, with a working copy and room for a label's values
 pub record Steps (s : List ℕ) (i : Image) (q : State) (store : List ℤ) (budget : ℕ) (label work values : List ℤ) : Type 0 where
   pub cleared : Cleared s i
-  pub passed : run_verdict (tables_of s) q store budget label ≡ Accepted
+  pub passed : run_verdict (tables_of s) q store budget label ≡ Ok tt
   pub copy : length work ≡ length store
   pub room : length values ≡ 8
 
 -- the same without them
 pub record Runs (s : List ℕ) (i : Image) (q : State) (store : List ℤ) (budget : ℕ) (label : List ℤ) : Type 0 where
   pub cleared : Cleared s i
-  pub passed : run_verdict (tables_of s) q store budget label ≡ Accepted
+  pub passed : run_verdict (tables_of s) q store budget label ≡ Ok tt

@@ -1,8 +1,8 @@
 // A step: its refusals in their order, one attempt on a working copy, and what is written back where it moves.
 #![tactic(auto)]
 
+ghost use Rattle.image.specs.Located.{tables};
 ghost use Rattle.std.specs.Prelude.{◌≡◌};
-ghost use Rattle.model.specs.Image.{tables_of};
 ghost use Rattle.model.specs.Calls.{slot_fits, attempt, moved_as, step};
 ghost use Rattle.actions.specs.State.{result_of};
 ghost use Rattle.finishing.specs.Finishing.{Finishes};
@@ -11,104 +11,88 @@ ghost use Rattle.stepping.specs.Stepping.{Slotted, SlotIn, slots_verdict, run_ve
 
 use actions::{Ran, Run};
 use finishing::finish;
-use image::{size, state_count, state_row, trailer, variable_count, variable_type};
+use image::{Automaton, trailer};
 use machine::run_action;
-use model::{Image, Refusal, State, Stepped, Variable, Verdict};
+use model::{Image, Move, Refusal, State, Variable};
 use stages::image_verdict;
-use told::{SLOTS, Values, outcome, put, taken};
+use told::{Values, outcome};
 use values::of_size;
-use words::copy;
 
 // Whether a slot is undefined or of its variable's type.
-fn slot_fits(image: &[u8], i: Image, store: &[i32], v: u16) -> bool
-    requires { SlotIn image.now i store.now v }
-    ensures { result ≡ slot_fits (tables_of image.now) store.now v }
+fn slot_fits(x: &Automaton, store: &[i32], v: u16) -> bool
+    requires { SlotIn x.now.image.now x.now.trailer store.now v }
+    ensures { result ≡ slot_fits (tables x.now) store.now v }
 {
     let z = store[v as usize];
     if z == Image::UNDEFINED {
         return true;
     }
-    of_size(Image::HALF, size(image, i, variable_type(image, i, v)), z)
+    of_size(Image::HALF, x.size(x.variable_type(v)), z)
 }
 
 // 18: the lowest slot that doesn't.
-fn slots_verdict(image: &[u8], i: Image, store: &[i32]) -> Verdict
-    requires { Slotted image.now i store.now }
-    ensures { result ≡ slots_verdict (tables_of image.now) store.now }
+fn slots_verdict(x: &Automaton, store: &[i32]) -> Result<(), Refusal>
+    requires { Slotted x.now.image.now x.now.trailer store.now }
+    ensures { result ≡ slots_verdict (tables x.now) store.now }
 {
-    let n = variable_count(image, i);
-    let mut v: u16 = 0;
-    while v < n {
-        if !slot_fits(image, i, store, v) {
-            return Verdict::Refused(Refusal::SlotValue(Variable(v)));
-        }
-        v += 1;
+    let n = x.variable_count();
+    match (0..n).find(|v| !slot_fits(x, store, *v)) {
+        Some(v) => Err(Refusal::SlotValue(Variable(v))),
+        None => Ok(()),
     }
-    Verdict::Accepted
 }
 
 // 17, 13, 18, 19, 20.
 fn run_verdict(
-    image: &[u8],
-    i: Image,
+    x: &Automaton,
     q: State,
     store: &[i32],
     budget: u32,
     label: &[i32],
-) -> Verdict
-    requires { Cleared image.now i }
-    ensures { result ≡ run_verdict (tables_of image.now) q store.now budget label.now }
+) -> Result<(), Refusal>
+    requires { Cleared x.now.image.now x.now.trailer }
+    ensures { result ≡ run_verdict (tables x.now) q store.now budget label.now }
 {
-    if state_count(image, i) <= q.0 {
-        return Verdict::Refused(Refusal::NoState);
+    if x.state_count() <= q.0 {
+        return Err(Refusal::NoState);
     }
-    if store.len() != variable_count(image, i) as usize {
-        return Verdict::Refused(Refusal::StoreLength);
+    if store.len() != x.variable_count() as usize {
+        return Err(Refusal::StoreLength);
     }
-    let v = slots_verdict(image, i, store);
-    match v {
-        Verdict::Refused(_) => v,
-        Verdict::Accepted => {
-            if label.len() < Image::LABEL as usize {
-                return Verdict::Refused(Refusal::LabelShort);
-            }
-            if Image::BUDGET < budget {
-                return Verdict::Refused(Refusal::BudgetOver);
-            }
-            Verdict::Accepted
-        }
+    slots_verdict(x, store)?;
+    if label.len() < Image::LABEL as usize {
+        return Err(Refusal::LabelShort);
     }
+    if Image::BUDGET < budget {
+        return Err(Refusal::BudgetOver);
+    }
+    Ok(())
 }
 
 // The run of the state's action, from nothing read, nothing used and nothing said.
 fn try_step(
-    image: &[u8],
-    i: Image,
+    x: &Automaton,
     q: u16,
     work: &mut &mut [i32],
     script: &[u8],
     values: &mut Values,
     budget: u32,
 ) -> Ran
-    requires { Trying image.now i q work.old.now values.old budget }
-    ensures { Tried result work.old.now work.new.now values.old values.new (attempt (tables_of image.now) q work.old.now script.now budget) }
+    requires { Trying x.now.image.now x.now.trailer q work.old.now values.old budget }
+    ensures { Tried result work.old.now work.new.now values.old values.new (attempt (tables x.now) q work.old.now script.now budget) }
 {
-    let mut run = [0usize; SLOTS];
-    put(
-        Run {
-            words: 0,
-            left: budget as usize,
-            spoken: false,
-            gate: 0,
-            count: 0,
-        },
-        &mut run,
-    );
-    let r = state_row(image, i, q);
-    let n = run_action(&image, i.rows, r, work, &script, values, &mut run);
+    let mut run = Run {
+        words: 0,
+        left: budget as usize,
+        spoken: false,
+        gate: 0,
+        count: 0,
+    };
+    let r = x.state_row(q);
+    let n = run_action(&x.image, x.trailer.rows, r, work, &script, values, &mut run);
     Ran {
         out: outcome(n),
-        run: taken(&run),
+        run: run,
     }
 }
 
@@ -121,7 +105,7 @@ fn finish_on(
     label: &mut [i32],
     work: &mut [i32],
     values: &mut [i32],
-) -> Stepped
+) -> Result<Move, Refusal>
     requires { Finishes ran budget store.old label.old work.old values.old }
     ensures { record { answer = result; store = store.new; label = label.new } ≡ moved_as (result_of ran work.old values.old) at budget store.old label.old }
 {
@@ -130,8 +114,7 @@ fn finish_on(
 
 // A step that nothing refuses, with a working copy and room for a label's values that its caller lends.
 fn step_on(
-    image: &[u8],
-    i: Image,
+    x: &Automaton,
     q: State,
     store: &mut [i32],
     script: &[u8],
@@ -139,34 +122,32 @@ fn step_on(
     label: &mut [i32],
     work: &mut &mut [i32],
     values: &mut Values,
-) -> Stepped
-    requires { Steps image.now i q store.old budget label.old work.old.now values.old }
-    ensures { record { answer = result; store = store.new; label = label.new } ≡ ran (tables_of image.now) q store.old script.now budget label.old }
+) -> Result<Move, Refusal>
+    requires { Steps x.now.image.now x.now.trailer q store.old budget label.old work.old.now values.old }
+    ensures { record { answer = result; store = store.new; label = label.new } ≡ ran (tables x.now) q store.old script.now budget label.old }
 {
-    copy(*work, store);
-    let p = try_step(image, i, q.0, work, script, values, budget);
-    let at = state_row(image, i, q.0);
+    work.copy_from_slice(store);
+    let p = try_step(x, q.0, work, script, values, budget);
+    let at = x.state_row(q.0);
     finish_on(p, at, budget, store, label, *work, values)
 }
 
 fn run_step(
-    image: &[u8],
-    i: Image,
+    x: &Automaton,
     q: State,
     store: &mut [i32],
     script: &[u8],
     budget: u32,
     label: &mut [i32],
-) -> Stepped
-    requires { Runs image.now i q store.old budget label.old }
-    ensures { record { answer = result; store = store.new; label = label.new } ≡ ran (tables_of image.now) q store.old script.now budget label.old }
+) -> Result<Move, Refusal>
+    requires { Runs x.now.image.now x.now.trailer q store.old budget label.old }
+    ensures { record { answer = result; store = store.new; label = label.new } ≡ ran (tables x.now) q store.old script.now budget label.old }
 {
     let mut work = [0i32; Image::VARIABLES as usize];
     let mut values = [0i32; Image::VECTOR as usize];
     let n = store.len();
     step_on(
-        image,
-        i,
+        x,
         q,
         store,
         script,
@@ -185,19 +166,14 @@ pub fn take_step(
     script: &[u8],
     budget: u32,
     label: &mut [i32],
-) -> Stepped
+) -> Result<Move, Refusal>
     ensures { record { answer = result; store = store.new; label = label.new } ≡ step image.now q store.old script.now budget label.old }
 {
-    let v = image_verdict(image);
-    match v {
-        Verdict::Refused(y) => Stepped::NotMoved(y),
-        Verdict::Accepted => {
-            let i = trailer(image);
-            let u = run_verdict(image, i, q, store, budget, label);
-            match u {
-                Verdict::Refused(y) => Stepped::NotMoved(y),
-                Verdict::Accepted => run_step(image, i, q, store, script, budget, label),
-            }
-        }
-    }
+    image_verdict(image)?;
+    let x = Automaton {
+        image,
+        trailer: trailer(image),
+    };
+    run_verdict(&x, q, store, budget, label)?;
+    run_step(&x, q, store, script, budget, label)
 }

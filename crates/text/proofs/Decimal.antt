@@ -56,12 +56,12 @@ decimal-width (suc k) n h =
     one-or-more n (λ d. rw (decimal_digit n [] d) (omega arith))
     (λ d. rw (decimal-tenth n [] d, decimal-append, length-append) (omega (arith, decimal-width k (n / 10) (omega (arith, pow-suc 10 (suc k))))))
 
--- at most 5 digits of a 16-bit number, and 4 of its tenth
-pub decimal-most : (n : ℕ) → n < 65536 → length (decimal n []) ≤ 5
+-- at most 5 digits of a 16-bit number, and 6 bytes with one after them
+decimal-most : (n : ℕ) → n < 65536 → length (decimal n []) ≤ 5
 decimal-most n h = decimal-width 4 n (omega arith)
 
-pub tenth-most : (n : ℕ) → n < 65536 → length (decimal (n / 10) []) ≤ 4
-tenth-most n h = decimal-width 3 (n / 10) (omega arith)
+pub decimal-after : (n b : ℕ) → n < 65536 → length (decimal n (b ∷ [])) ≤ 6
+decimal-after n b h = rw (decimal-append n (b ∷ []), length-append) (omega (arith, decimal-most n h))
 
 -- a number, a byte and the text after it, before some more
 pub decimal-then : (n b : ℕ) (t u : List ℕ) → decimal n (b ∷ (t ++ u)) ≡ decimal n (b ∷ t) ++ u

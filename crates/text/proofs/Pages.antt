@@ -48,8 +48,8 @@ pub emit-next : {p q r : Page} (xs : List ℕ) (j : ℕ) → j < length xs → E
 emit-next xs j h e f = rw (add-one, take-suc xs j 0 h) (emit-then e f)
 
 -- a number of one digit, and one whose tenth stands before its last digit
-pub emit-digit : {p q : Page} (n : ℕ) → n < 10 → Emitted ((48 + n) ∷ []) p q → Emitted (decimal n []) p q
-emit-digit n h e = rw (decimal_digit n [] h) e
+pub emit-digit : {p q : Page} (n : ℕ) → n < 10 → Emitted ((48 + n % 10) ∷ []) p q → Emitted (decimal n []) p q
+emit-digit n h e = let d : n % 10 ≡ n = omega arith in rw (decimal_digit n [] h) (rw d at e)
 
 pub emit-tenth : {p q r : Page} (n : ℕ) → 10 ≤ n → Emitted (decimal (n / 10) []) p q → Emitted ((48 + n % 10) ∷ []) q r
     → Emitted (decimal n []) p r

@@ -1,20 +1,13 @@
 -- Text put piece after piece. Assumes nothing.
-use mathlib.Core.{Path.◌≡◌, Path.refl, Path.sym, Path.ap, Path.◌∙◌, List.List, List.[], List.◌∷◌, List.◌++◌, List.append_assoc, List.append-nil}
-use Prim.Native.Nat.{ℕ, ◌+◌, ◌/◌, ◌%◌, ◌<◌, ◌≤◌}
+use mathlib.Core.{Path.◌≡◌, Path.refl, Path.sym, Path.◌∙◌, List.List, List.[], List.◌∷◌, List.◌++◌, List.append_assoc, List.append-nil}
+use Prim.Native.Nat.{ℕ, ◌+◌, ◌<◌, ◌≤◌}
 use native.Mathlib.{Omega.arith, Numerals.add-one, Nat.add-zero}
-use lib.{ListN.length, ListN.take, ListN.drop, ListN.set, ListN.take-append-drop, ListN.length-append, ListN.length-drop, Seq.length-take-le, Seq.take_at, Seq.drop-append-add, Seq.drop-drop, Seq.set_split, Seq.append_snoc}
-use Rattle.model.specs.Exports.{decimal}
+use lib.{ListN.length, ListN.take, ListN.drop, ListN.set, ListN.take-append-drop, ListN.length-append, Seq.length-take-le, Seq.take_at, Seq.drop-append-add, Seq.drop-drop, Seq.set_split, Seq.append_snoc}
 use Rattle.text.specs.Put.{Put}
-use Rattle.text.proofs.Decimal.{decimal_digit, decimal-tenth, decimal-append}
 
 -- what stands before the end of the text put
 head-long : (s : List ℕ) (at : ℕ) (t : List ℕ) → at ≤ length s → length (take at s ++ t) ≡ at + length t
 head-long s at t h = rw (length-append, length-take-le at s h)
-
--- the slice keeps its length
-pub put-length : {s : List ℕ} {at : ℕ} {t : List ℕ} {r : ℕ} {u : List ℕ} → Put s at t r u → r ≤ length s → length u ≡ length s
-put-length {s} {at} {t} {r} p h =
-    ap length p.text ∙ rw (length-append (take at s ++ t), head-long s at t (omega (arith, p.next)), length-drop) (omega (arith, p.next))
 
 -- nothing put
 pub put-none : (s : List ℕ) (at : ℕ) → Put s at [] at s
@@ -35,15 +28,3 @@ put_then {s} {u} {w} {t} {v} {a} {b} {c} p h q =
       next = rw length-append (omega (arith, p.next, q.next));
       text = q.text ∙ rw (f, g, append_assoc (take a s) t v);
     }
-
--- a number's digits, and a byte after them
-pub put-after : (n b : ℕ) {s u : List ℕ} {at r : ℕ} → Put s at (decimal n []) r u → r < length s → Put s at (decimal n (b ∷ [])) (r + 1) (set u r b)
-put-after n b {s} {u} {at} {r} p h =
-    rw (decimal-append n (b ∷ [])) (put_then p (omega arith) (put_one u r b (omega (arith, put-length p (omega arith)))))
-
--- a number of one digit, and one whose tenth stands before its last digit
-pub put-digit : (n : ℕ) (s : List ℕ) (at : ℕ) → n < 10 → at < length s → Put s at (decimal n []) (at + 1) (set s at (48 + n))
-put-digit n s at d h = rw (decimal_digit n [] d) (put_one s at (48 + n) h)
-
-pub put-tenth : (n : ℕ) {s u : List ℕ} {at r : ℕ} → 10 ≤ n → Put s at (decimal (n / 10) []) r u → r < length s → Put s at (decimal n []) (r + 1) (set u r (48 + n % 10))
-put-tenth n d p h = rw (decimal-tenth n [] d) (put-after (n / 10) (48 + n % 10) p h)

@@ -1,34 +1,16 @@
--- What the run of an action hands on: its state in slots, and how it ended as a number. Assumes nothing.
+-- What the run of an action hands on: its state, and how it ended as a number. Assumes nothing.
 use mathlib.Core.{Path.◌≡◌, Bool.cond, List.List}
 use Rattle.std.specs.Prelude.{ℕ, ◌+◌, ◌-◌, ◌*◌, ◌/◌, ◌%◌, ◌≤◌}
-use mir.Val.{bool_byte}
-use lib.{Dec.eqb, Dec.ltb, IntN.ℤ, ListN.length, ListN.get_or, ListN.set}
+use lib.{Dec.eqb, Dec.ltb, IntN.ℤ, ListN.length}
 use Rattle.model.specs.declared.{Row.Row, Refusal.Refusal, Refusal.TheVariants.Blocked, Refusal.TheVariants.Undefined, Refusal.TheVariants.ScriptEnded, Refusal.TheVariants.WordOutOfRange, Refusal.TheVariants.BudgetSpent, Refusal.TheVariants.BlockedSpoken, Refusal.TheVariants.SecondCommunication, Outcome.Outcome, Outcome.TheVariants.Ends, Outcome.TheVariants.Jumps, Outcome.TheVariants.Stops}
 use Rattle.model.specs.Answers.{state, row, number, place}
 use Rattle.model.specs.Run.{Res}
 use Rattle.actions.specs.declared.{Run.Run, Ran.Ran}
 use Rattle.actions.specs.State.{result_of}
 
--- words read, units left, whether something was said, its gate, the number of its values
-abbrev pub run_of : List ℕ → Run
-run_of l =
-    record {
-      words = get_or l 0 0;
-      left = get_or l 1 0;
-      spoken = eqb (get_or l 2 0) 1;
-      gate = get_or l 3 0 % 65536;
-      count = get_or l 4 0 % 65536;
-    }
-
--- and the slots with a run's state put into them
-abbrev pub slots_of : Run → List ℕ → List ℕ
-slots_of q l =
-    set (set (set (set (set l 0 q.words) 1 q.left) 2 (bool_byte q.spoken)) 3 q.gate) 4 q.count
-
--- so that it can be taken out again
-pub record Puts (q : Run) (l k : List ℕ) : Type 0 where
-  pub slots : k ≡ slots_of q l
-  pub run : run_of k ≡ q
+-- a run with one unit less
+abbrev pub charged : Run → Run
+charged run = record { words = run.words; left = run.left - 1; spoken = run.spoken; gate = run.gate; count = run.count }
 
 -- 21 to 27, at a row
 unfoldable pub refusal_of : ℕ → Row → Refusal
@@ -56,8 +38,8 @@ pub record Tells (n : ℕ) (o : Outcome) : Type 0 where
   pub told : n ≡ told_of o
   pub outcome : outcome_of n ≡ o
 
-abbrev pub ran_of : ℕ → List ℕ → Ran
-ran_of n l = record { out = outcome_of n; run = run_of l }
+abbrev pub ran_of : ℕ → Run → Ran
+ran_of n run = record { out = outcome_of n; run = run }
 
 -- a refusal of a run
 pub record OfRun (o : Outcome) : Type 0 where
@@ -67,10 +49,9 @@ pub record OfRun (o : Outcome) : Type 0 where
 abbrev pub Told : ℕ → Type 0
 Told n = n ≡ told_of (outcome_of n)
 
--- what a run told as n leaves, each list as long as it was: its state in k, the store in j, the label's values in u
-pub record Leaves (n : ℕ) (l k : List ℕ) (m j v u : List ℤ) (q : Res) : Type 0 where
+-- what a run told as n leaves, each list as long as it was: its state run, the store in j, the label's values in u
+pub record Leaves (n : ℕ) (run : Run) (m j v u : List ℤ) (q : Res) : Type 0 where
   pub told : Told n
-  pub result : result_of (ran_of n k) j u ≡ q
-  pub run : length k ≡ length l
+  pub result : result_of (ran_of n run) j u ≡ q
   pub store : length j ≡ length m
   pub values : length u ≡ length v

@@ -1,34 +1,20 @@
-// What the run of an action hands on from row to row, so that no copy is made for it: its state in an array, and how it
-// ended as a number.
+// What the run of an action hands on from row to row: its state, lent, and how it ended as a number. An Outcome as the result
+// was tried and is slower (measured): it goes through memory at each row, in and out.
 #![tactic(auto)]
 
-ghost use Rattle.std.specs.Prelude.{◌≡◌, ◌+◌, ◌-◌, ◌≤◌, ◌<◌, ◌^◌, length, get_or, set};
+ghost use Rattle.std.specs.Prelude.{◌≡◌, ◌+◌, ◌≤◌, ◌<◌, ◌^◌};
 ghost use Rattle.model.specs.declared.{Outcome.TheVariants.Stops};
 ghost use Rattle.model.specs.Answers.{number};
-ghost use Rattle.told.specs.Told.{run_of, refusal_of, outcome_of, OfRun, Tells, Puts};
+ghost use Rattle.actions.specs.State.{run_at};
+ghost use Rattle.told.specs.Told.{charged, refusal_of, outcome_of, OfRun, Tells};
 
 use actions::Run;
 use model::{Image, Outcome, Refusal, Row, State};
 
-// A run's state, and room for a label's values.
-pub const SLOTS: usize = 5;
-
-pub type Slots = [usize; SLOTS];
-
+// Room for a label's values.
 pub type Values = [i32; Image::VECTOR as usize];
 
-// Where a run's state stands in its slots.
-const WORDS: usize = 0;
-
-const LEFT: usize = 1;
-
-const SPOKEN: usize = 2;
-
-const GATE: usize = 3;
-
-const COUNT: usize = 4;
-
-// An action that ended.
+// An action that ended. An enum for how it ended was tried: runs were 18 to 30 percent slower (docs/DECISIONS.md, 62).
 pub const ENDS: u32 = 0;
 
 // The least number of one that stopped.
@@ -81,64 +67,18 @@ pub fn outcome(n: u32) -> Outcome
     Outcome::Stops(refusal(n / STOPS, Row((n % 65536) as u16)))
 }
 
-// A run's state, taken out of its slots.
-pub fn taken(run: &Slots) -> Run
-    ensures { result ≡ run_of run.now }
-{
-    Run {
-        words: run[WORDS],
-        left: run[LEFT],
-        spoken: run[SPOKEN] == 1,
-        gate: (run[GATE] % 65536) as u16,
-        count: (run[COUNT] % 65536) as u16,
-    }
-}
-
-// And put back.
-pub fn put(q: Run, run: &mut Slots)
-    requires { 5 ≤ length run.old }
-    ensures { Puts q run.old run.new }
-{
-    run[WORDS] = q.words;
-    run[LEFT] = q.left;
-    run[SPOKEN] = q.spoken as usize;
-    run[GATE] = q.gate as usize;
-    run[COUNT] = q.count as usize;
-}
-
-// The units left.
-pub fn left(run: &Slots) -> usize
-    ensures { result ≡ (run_of run.now).left }
-{
-    run[LEFT]
-}
-
 // One unit less.
-pub fn charge(run: &mut Slots)
-    requires { 1 ≤ (run_of run.old).left }
-    ensures { run.new ≡ set run.old 1 ((run_of run.old).left - 1) }
+pub fn charge(run: &mut Run)
+    requires { 1 ≤ run.old.left }
+    ensures { run.new ≡ charged run.old }
 {
-    run[LEFT] -= 1;
-}
-
-// The words read.
-pub fn words(run: &Slots) -> usize
-    ensures { result ≡ (run_of run.now).words }
-{
-    run[WORDS]
+    run.left -= 1;
 }
 
 // One word more.
-pub fn hear(run: &mut Slots)
-    requires { (run_of run.old).words + 1 < 2 ^ 64 }
-    ensures { run.new ≡ set run.old 0 ((run_of run.old).words + 1) }
+pub fn hear(run: &mut Run)
+    requires { run.old.words + 1 < 2 ^ 64 }
+    ensures { run.new ≡ run_at run.old (run.old.words + 1) }
 {
-    run[WORDS] += 1;
-}
-
-// Whether something was said.
-pub fn spoken(run: &Slots) -> bool
-    ensures { result ≡ (run_of run.now).spoken }
-{
-    run[SPOKEN] == 1
+    run.words += 1;
 }

@@ -5,3 +5,4 @@ pub mod Types
 pub mod Lists
 pub mod Rules
 pub mod Verdict
+pub mod Operators

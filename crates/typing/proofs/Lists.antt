@@ -1,169 +1,177 @@
--- The lists of items and arms, row by row: what the rest of a list says is what the whole list says. Assumes nothing.
+-- The lists of items and arms: the walk along one whose rows are put to a test, and the tests of each. Assumes nothing.
 use mathlib.Core.{Path.◌≡◌, Path.refl, Path.sym, Path.ap, Path.◌∙◌, Logic.◌⊎◌, Logic.inl, Logic.inr, Logic.⊎_elim}
-use mathlib.Core.{Bool.Bool, Bool.true, Bool.false, Bool.◌&&◌, List.List, List.map}
-use Prim.Native.Nat.{ℕ, ◌+◌, ◌%◌, ◌<◌}
+use mathlib.Core.{Bool.Bool, Bool.true, Bool.false, Bool.◌&&◌, List.List, List.[], List.◌∷◌, List.map}
+use Prim.Native.Nat.{ℕ, suc, ◌+◌, ◌%◌, ◌<◌}
 use native.Mathlib.Omega.{arith}
 use lib.Dec.{eqb}
-use borrow.Author.Tests.{eq-eqb, ne_eqb}
+use Rattle.std.specs.Prelude.{All}
+use Rattle.std.proofs.lemmas.List.Elements.{All-nil, All-cons, All-head, All-tail, All-same}
 use Rattle.model.specs.declared.{Image.Image, Fields.Fields}
 use Rattle.model.specs.Answers.{variable}
 use Rattle.model.specs.Lists.{all}
 use Rattle.model.specs.Image.{Tables, none, tables_of, type_of, fields_of}
-use Rattle.model.specs.Rows.{Kind, gets, of_type, arm, expression, pattern, another}
-use Rattle.model.specs.Trees.{Gets, OfType}
-use Rattle.model.specs.Decode.{expression_at, arms_of, action_at}
+use Rattle.model.specs.Rows.{Kind, gets, of_type, arm, expression, pattern, another, kind_of, means_at, next_of}
+use Rattle.model.specs.Decode.{expression_at, list_at, arms_of, action_at}
+use Rattle.model.specs.Trees.{Gets, OfType, Action}
 use Rattle.model.specs.Typing.{type_of_exp, arms_of_type}
-use Rattle.model.proofs.Rows.{Named, Row, is-kind}
-use Rattle.model.proofs.Decode.{list_at-none}
-use Rattle.image.specs.Located.{RowOf, VariableOf}
+use Rattle.model.proofs.Rows.{Named, Row, is-kind, next-named}
+use Rattle.model.proofs.Decode.{list_at-none, list_at-step, Listed, no_more, one-row, list_at-listed}
+use Rattle.image.specs.Located.{RowOf, VariableOf, Formed}
 use Rattle.image.proofs.Laid.{laid}
-use Rattle.typing.specs.Rules.{expression_type, pattern_type, gets_typed, of_types_typed, arms_typed, OfKind, OrNone}
-use Rattle.typing.proofs.Rows.{Here, all-formed, known-row, facts-of, child, variable-in, list-is}
+use Rattle.model.proofs.Codes.{next-is}
+use Rattle.typing.specs.Rules.{expression_type, pattern_type, gets_typed, of_types_typed, arms_typed, TestedRow, TestedList, AllPass, OfKind, OrNone}
+use Rattle.typing.proofs.Rows.{Here, all-formed, known-row, facts-of, child, variable-in}
 
--- the walk along a list of the kind k that starts at row r has come to row at; P tests a list
-pub record Along (s : List ℕ) (i : Image) (k : Kind) (P : ℕ → Bool) (r at : ℕ) : Type 0 where
-  pub list : OrNone s i k at
-  pub rest : P at ≡ P r
+-- the walk along the list that starts at row first has come to row at: what the rest passes, the list passes
+pub record Along (s : List ℕ) (i : Image) (callable : Fields → Type 0) (answers : Fields → Bool → Type 0) (first at : ℕ) : Type 0 where
+  pub list : TestedList s i callable at
+  pub rest : (b : Bool) → AllPass answers (tables_of s) (list_at (tables_of s) at) b → AllPass answers (tables_of s) (list_at (tables_of s) first) b
 
-pub begin : {s : List ℕ} {i : Image} {k : Kind} {r : ℕ} (P : ℕ → Bool) → OrNone s i k r → Along s i k P r r
-begin P l = record { list = l; rest = refl }
+pub begin : {s : List ℕ} {i : Image} {callable : Fields → Type 0} {answers : Fields → Bool → Type 0} {first : ℕ} → TestedList s i callable first → Along s i callable answers first first
+begin l = record { list = l; rest = λ b h. h }
 
--- the row that it has come to
-pub row-there : {s : List ℕ} {i : Image} {k : Kind} {P : ℕ → Bool} {r at : ℕ} → Along s i k P r at → (at ≡ none → ⊥) → OfKind s i k at
-row-there a n = record { formed = a.list.formed; kind = elim a.list.named [ inl e ↦ absurd (n e) | inr k ↦ k ] }
+module _ {s : List ℕ} {i : Image} {callable : Fields → Type 0} {answers : Fields → Bool → Type 0} {first at : ℕ} (a : Along s i callable answers first at) where
+  abbrev x : Tables
+  x = tables_of s
 
--- the list is over
-over : {s : List ℕ} {i : Image} {k : Kind} {r at : ℕ} (P : ℕ → Bool) → P none ≡ true → Along s i k P r at → at ≡ none → true ≡ P r
-over P e a n = sym e ∙ ap P (sym n) ∙ a.rest
+  abbrev Answered : (ℕ → Bool) → ℕ → Type 0
+  Answered p r = (t : Bool) → answers (fields_of x r) t → t ≡ p r
 
--- a row fails; a row passes, and the rest decides
-fails : {s : List ℕ} {i : Image} {k : Kind} {r at : ℕ} (P : ℕ → Bool) (b : Bool) (n : ℕ) → Along s i k P r at → P at ≡ (b && P n) → b ≡ false → false ≡ P r
-fails P b n a e f = sym (ap (λ (t : Bool). t && P n) f) ∙ sym e ∙ a.rest
-
-goes_on : {s : List ℕ} {i : Image} {k : Kind} {r at : ℕ} (P : ℕ → Bool) (b : Bool) (n : ℕ) → Along s i k P r at → P at ≡ (b && P n) → b ≡ true
-    → (n ≡ none) ⊎ Named (tables_of s) at k n → Along s i k P r n
-goes_on P b n a e t f = record {
-  list = record { formed = a.list.formed; named = ⊎_elim (λ q. inl q) (λ q. inr q.kind) f };
-  rest = sym (ap (λ (u : Bool). u && P n) t) ∙ sym e ∙ a.rest;
-}
-
--- the next row is lower, or none, which counts 0
-less : {s : List ℕ} {i : Image} {k : Kind} {r n : ℕ} → RowOf s i r → (n ≡ none) ⊎ Named (tables_of s) r k n → (n + 1) % 65536 < (r + 1) % 65536
-less o (inl e) = let l = laid o.located in omega (arith, l.rows_most, o.inside)
-less o (inr q) = let l = laid o.located in omega (arith, l.rows_most, o.inside, q.below)
-
--- 44: items that get a value
-abbrev pub AlongGets : List ℕ → Image → ℕ → ℕ → Type 0
-AlongGets s i r at = Along s i gets (λ q. gets_typed (tables_of s) q) r at
-
-abbrev gets_of : Tables → List ℕ → Bool
-gets_of x l =
-    all (λ (g : Gets). eqb (type_of_exp x g.e) (type_of x g.v))
-    (map (λ j. record { v = variable (fields_of x j).a; e = expression_at x (fields_of x j).b }) l)
-
-pub gets-over : {s : List ℕ} {i : Image} {r at : ℕ} → AlongGets s i r at → at ≡ none → true ≡ gets_typed (tables_of s) r
-unfolding all
-gets-over {s} a n =
-    let x = tables_of s in
-    over (λ q. gets_typed x q) (ap (λ (l : List ℕ). gets_of x l) (list_at-none x (all-formed a.list.formed))) a n
-
-module _ {s : List ℕ} {i : Image} {r at : ℕ} {w : Fields} (h : Here s i at w) (n : at ≡ none → ⊥) (a : AlongGets s i r at) where
-  gets-row : Row (tables_of s) at w (another gets)
-  gets-row = facts-of h (another gets) (is-kind (tables_of s) gets at (row-there a n).kind)
-
-  pub gets-variable : VariableOf s i w.a
-  gets-variable = variable-in h w.a gets-row.a
-
-  pub gets-expression : OfKind s i expression w.b
-  gets-expression = child h gets-row.b
-
-  gets_step : gets_typed (tables_of s) at
-      ≡ (eqb (expression_type (tables_of s) w.b) (type_of (tables_of s) (variable w.a)) && gets_typed (tables_of s) w.c)
+  -- the list is over
+  pub over : at ≡ none → AllPass answers (tables_of s) (list_at (tables_of s) first) true
   unfolding all
-  gets_step =
-      let x = tables_of s in
-      ap (λ (l : List ℕ). gets_of x l) (list-is h (another gets) (is-kind x gets at (row-there a n).kind) n)
-      ∙ ap (λ (v : Fields). eqb (expression_type x v.b) (type_of x (variable v.a)) && gets_typed x w.c) (sym h.fields)
+  over e = a.rest true (λ p h. sym (ap (all p) (ap (list_at x) e ∙ list_at-none x (all-formed a.list.formed))))
 
-  pub gets-less : (w.c + 1) % 65536 < (at + 1) % 65536
-  gets-less = less (known-row refl (row-there a n)) gets-row.c
+  module _ (n : at ≡ none → ⊥) where
+    abbrev step : list_at x at ≡ at ∷ list_at x (next_of x at)
+    step = list_at-step x (all-formed a.list.formed) at n
 
-  pub gets-fails : {t v : ℕ} → t ≡ expression_type (tables_of s) w.b → v ≡ type_of (tables_of s) (variable w.a) → (t ≡ v → ⊥)
-      → false ≡ gets_typed (tables_of s) r
-  gets-fails p q f = fails (λ k. gets_typed (tables_of s) k) _ w.c a gets_step (ne_eqb _ _ (λ e. f (p ∙ e ∙ sym q)))
+    abbrev rows : All (TestedRow s i callable) (at ∷ list_at x (next_of x at))
+    rows = All-same (TestedRow s i callable) _ _ (sym step) a.list.rows
 
-  pub gets-goes : {t v : ℕ} → t ≡ expression_type (tables_of s) w.b → v ≡ type_of (tables_of s) (variable w.a) → t ≡ v
-      → AlongGets s i r w.c
-  gets-goes p q e = goes_on (λ k. gets_typed (tables_of s) k) _ w.c a gets_step (eq-eqb _ _ (sym p ∙ e ∙ q)) gets-row.c
+    -- the row that it has come to
+    abbrev pub row-there : TestedRow s i callable at
+    row-there = All-head (TestedRow s i callable) at (list_at x (next_of x at)) rows
 
--- 45: items of a type
-abbrev pub AlongOfTypes : List ℕ → Image → ℕ → ℕ → Type 0
-AlongOfTypes s i r at = Along s i of_type (λ q. of_types_typed (tables_of s) q) r at
+    pub place-there : RowOf s i at
+    place-there = record { located = a.list.formed.located; inside = row-there.inside }
 
-abbrev of_types_of : Tables → List ℕ → Bool
-of_types_of x l =
-    all (λ (o : OfType). eqb (type_of x o.v) o.t) (map (λ j. record { v = variable (fields_of x j).a; t = (fields_of x j).b }) l)
+    module _ {w : Fields} (is : w ≡ fields_of (tables_of s) at) where
+      pub may-there : callable w
+      may-there = rw is row-there.may
 
-pub of_types-over : {s : List ℕ} {i : Image} {r at : ℕ} → AlongOfTypes s i r at → at ≡ none → true ≡ of_types_typed (tables_of s) r
+      next-there : next_of x at ≡ w.c
+      next-there = row-there.next ∙ sym (ap (λ (v : Fields). v.c) is)
+
+      -- the next row is lower, or none, which counts 0
+      pub less : (w.c + 1) % 65536 < (at + 1) % 65536
+      less = lower (next-named x (all-formed a.list.formed) at)
+        where
+          lower : (next_of x at ≡ none) ⊎ Named x at (kind_of (means_at x at)) (next_of x at) → (w.c + 1) % 65536 < (at + 1) % 65536
+          lower (inl e) = let l = laid a.list.formed.located in let p = row-there.inside in omega (arith, l.rows_most, p, next-there, e)
+          lower (inr q) = let l = laid a.list.formed.located in let p = row-there.inside in let b = q.below in omega (arith, l.rows_most, p, next-there, b)
+
+      -- the row fails; it passes, and the rest decides
+      pub fails : answers w false → AllPass answers (tables_of s) (list_at (tables_of s) first) false
+      unfolding all
+      fails f =
+          a.rest false (λ p h.
+          let q = All-head (Answered p) at (list_at x (next_of x at)) (All-same (Answered p) _ _ (sym step) h) in
+          ap (λ t. t && all p (list_at x (next_of x at))) (q false (rw (← is) f)) ∙ sym (ap (all p) step))
+
+      pub goes_on : answers w true → Along s i callable answers first w.c
+      unfolding all
+      goes_on f = rw (← next-there) (record {
+        list = record { formed = a.list.formed; rows = All-tail (TestedRow s i callable) at (list_at x (next_of x at)) rows };
+        rest = λ b r. a.rest b (λ p h.
+            let l = All-same (Answered p) _ _ (sym step) h in
+            r p (All-tail (Answered p) at (list_at x (next_of x at)) l)
+            ∙ ap (λ t. t && all p (list_at x (next_of x at))) (All-head (Answered p) at (list_at x (next_of x at)) l true (rw (← is) f))
+            ∙ sym (ap (all p) step));
+      })
+
+-- the rows of a list of a kind are of that kind
+module _ {s : List ℕ} {i : Image} {k : Kind} where
+  kinds-listed : (f : Formed s i) {m : ℕ} (l : List ℕ) → Listed (tables_of s) (all-formed f) m k l → All (OfKind s i k) l
+  kinds-listed f [] no_more = All-nil (OfKind s i k)
+  kinds-listed f (r ∷ l) (one-row p q) = All-cons (OfKind s i k) r l (record { formed = f; kind = p.kind }) (kinds-listed f l q)
+
+  pub kinds : {r : ℕ} → OrNone s i k r → All (OfKind s i k) (list_at (tables_of s) r)
+  kinds {r} o =
+      kinds-listed o.formed (list_at (tables_of s) r)
+      (list_at-listed (tables_of s) (all-formed o.formed) r (suc r) k (⊎_elim (λ e. inl e) (λ q. inr (record { below = omega arith; kind = q })) o.named))
+
+  -- a list whose rows may all be put to a test
+  pub tested : {callable : Fields → Type 0} {r : ℕ} → OrNone s i k r → ((r : ℕ) → OfKind s i k r → TestedRow s i callable r) → TestedList s i callable r
+  tested o h = record { formed = o.formed; rows = λ n d l. h _ (kinds o n d l) }
+
+all-map : {A B : Type 0} (p : B → Bool) (f : A → B) (l : List A) → all p (map f l) ≡ all (λ a. p (f a)) l
 unfolding all
-of_types-over {s} a n =
-    let x = tables_of s in
-    over (λ q. of_types_typed x q) (ap (λ (l : List ℕ). of_types_of x l) (list_at-none x (all-formed a.list.formed))) a n
+all-map p f [] = refl
+all-map p f (a ∷ l) = ap (λ t. p (f a) && t) (all-map p f l)
 
-module _ {s : List ℕ} {i : Image} {r at : ℕ} {w : Fields} (h : Here s i at w) (n : at ≡ none → ⊥) (a : AlongOfTypes s i r at) where
-  of_type-row : Row (tables_of s) at w (another of_type)
-  of_type-row = facts-of h (another of_type) (is-kind (tables_of s) of_type at (row-there a n).kind)
+module _ {s : List ℕ} {i : Image} where
+  -- a row of a kind, with its fields
+  here : {k : Kind} {r : ℕ} → OfKind s i k r → Here s i r (fields_of (tables_of s) r)
+  here f = record { formed = f.formed; fields = refl }
 
-  pub of_type-variable : VariableOf s i w.a
-  of_type-variable = variable-in h w.a of_type-row.a
+  -- 44: items that get a value
+  module _ {r : ℕ} (f : OfKind s i gets r) where
+    gets-row : Row (tables_of s) r (fields_of (tables_of s) r) (another gets)
+    gets-row = facts-of (here f) (another gets) (is-kind (tables_of s) gets r f.kind)
 
-  of_types-step : of_types_typed (tables_of s) at ≡ (eqb (type_of (tables_of s) (variable w.a)) w.b && of_types_typed (tables_of s) w.c)
-  unfolding all
-  of_types-step =
-      let x = tables_of s in
-      ap (λ (l : List ℕ). of_types_of x l) (list-is h (another of_type) (is-kind x of_type at (row-there a n).kind) n)
-      ∙ ap (λ (v : Fields). eqb (type_of x (variable v.a)) v.b && of_types_typed x w.c) (sym h.fields)
+    pub gets-variable : VariableOf s i (fields_of (tables_of s) r).a
+    gets-variable = variable-in (here f) _ gets-row.a
 
-  pub of_types-less : (w.c + 1) % 65536 < (at + 1) % 65536
-  of_types-less = less (known-row refl (row-there a n)) of_type-row.c
+    pub gets-expression : OfKind s i expression (fields_of (tables_of s) r).b
+    gets-expression = child (here f) gets-row.b
 
-  pub of_types-fails : {v : ℕ} → v ≡ type_of (tables_of s) (variable w.a) → (v ≡ w.b → ⊥) → false ≡ of_types_typed (tables_of s) r
-  of_types-fails q f = fails (λ k. of_types_typed (tables_of s) k) _ w.c a of_types-step (ne_eqb _ _ (λ e. f (q ∙ e)))
+    pub gets-tested : {callable : Fields → Type 0} → callable (fields_of (tables_of s) r) → TestedRow s i callable r
+    gets-tested c = record { inside = (known-row refl f).inside; next = next-is (tables_of s) r (another gets) (is-kind (tables_of s) gets r f.kind); may = c }
 
-  pub of_types-goes : {v : ℕ} → v ≡ type_of (tables_of s) (variable w.a) → v ≡ w.b → AlongOfTypes s i r w.c
-  of_types-goes q e = goes_on (λ k. of_types_typed (tables_of s) k) _ w.c a of_types-step (eq-eqb _ _ (sym q ∙ e)) of_type-row.c
+  -- 45: items of a type
+  module _ {r : ℕ} (f : OfKind s i of_type r) where
+    of_type-row : Row (tables_of s) r (fields_of (tables_of s) r) (another of_type)
+    of_type-row = facts-of (here f) (another of_type) (is-kind (tables_of s) of_type r f.kind)
 
--- 58: arms, whose patterns are of the type t
-abbrev pub AlongArms : List ℕ → Image → ℕ → ℕ → ℕ → Type 0
-AlongArms s i t r at = Along s i arm (λ q. arms_typed (tables_of s) t q) r at
+    pub of_type-variable : VariableOf s i (fields_of (tables_of s) r).a
+    of_type-variable = variable-in (here f) _ of_type-row.a
 
-pub arms-over : {s : List ℕ} {i : Image} (t : ℕ) {r at : ℕ} → AlongArms s i t r at → at ≡ none → true ≡ arms_typed (tables_of s) t r
-unfolding arms_of arms_of_type
-arms-over {s} t a n =
-    let x = tables_of s in
-    over (λ q. arms_typed x t q)
-    (ap (λ (l : List ℕ). arms_of_type x t (arms_of x (action_at x) l)) (list_at-none x (all-formed a.list.formed)))
-    a n
+    pub of_type-tested : {callable : Fields → Type 0} → callable (fields_of (tables_of s) r) → TestedRow s i callable r
+    of_type-tested c = record { inside = (known-row refl f).inside; next = next-is (tables_of s) r (another of_type) (is-kind (tables_of s) of_type r f.kind); may = c }
 
-module _ {s : List ℕ} {i : Image} (t : ℕ) {r at : ℕ} {w : Fields} (h : Here s i at w) (n : at ≡ none → ⊥) (a : AlongArms s i t r at) where
-  arm-row : Row (tables_of s) at w (another arm)
-  arm-row = facts-of h (another arm) (is-kind (tables_of s) arm at (row-there a n).kind)
+  -- 58: arms, whose patterns are of the type t
+  module _ {r : ℕ} (f : OfKind s i arm r) where
+    arm-row : Row (tables_of s) r (fields_of (tables_of s) r) (another arm)
+    arm-row = facts-of (here f) (another arm) (is-kind (tables_of s) arm r f.kind)
 
-  pub arm-pattern : OfKind s i pattern w.a
-  arm-pattern = child h arm-row.a
+    pub arm-pattern : OfKind s i pattern (fields_of (tables_of s) r).a
+    arm-pattern = child (here f) arm-row.a
 
-  arms_step : arms_typed (tables_of s) t at ≡ (eqb (pattern_type (tables_of s) w.a) t && arms_typed (tables_of s) t w.c)
-  unfolding arms_of arms_of_type
-  arms_step =
-      let x = tables_of s in
-      ap (λ (l : List ℕ). arms_of_type x t (arms_of x (action_at x) l)) (list-is h (another arm) (is-kind x arm at (row-there a n).kind) n)
-      ∙ ap (λ (v : Fields). eqb (pattern_type x v.a) t && arms_typed x t w.c) (sym h.fields)
+    pub arm-tested : {callable : Fields → Type 0} → callable (fields_of (tables_of s) r) → TestedRow s i callable r
+    arm-tested c = record { inside = (known-row refl f).inside; next = next-is (tables_of s) r (another arm) (is-kind (tables_of s) arm r f.kind); may = c }
 
-  pub arms_less : (w.c + 1) % 65536 < (at + 1) % 65536
-  arms_less = less (known-row refl (row-there a n)) arm-row.c
+-- each test, and what it says of a list
+module _ (x : Tables) where
+  abbrev pub gets_pass : ℕ → Bool
+  gets_pass r = eqb (expression_type x (fields_of x r).b) (type_of x (variable (fields_of x r).a))
 
-  pub arms-fails : {p : ℕ} → p ≡ pattern_type (tables_of s) w.a → (p ≡ t → ⊥) → false ≡ arms_typed (tables_of s) t r
-  arms-fails q f = fails (λ k. arms_typed (tables_of s) t k) _ w.c a arms_step (ne_eqb _ _ (λ e. f (q ∙ e)))
+  pub gets-all : (r : ℕ) → all gets_pass (list_at x r) ≡ gets_typed x r
+  gets-all r = sym (all-map (λ (g : Gets). eqb (type_of_exp x g.e) (type_of x g.v)) (λ j. record { v = variable (fields_of x j).a; e = expression_at x (fields_of x j).b }) (list_at x r))
 
-  pub arms_goes : {p : ℕ} → p ≡ pattern_type (tables_of s) w.a → p ≡ t → AlongArms s i t r w.c
-  arms_goes q e = goes_on (λ k. arms_typed (tables_of s) t k) _ w.c a arms_step (eq-eqb _ _ (sym q ∙ e)) arm-row.c
+  abbrev pub of_type_passes : ℕ → Bool
+  of_type_passes r = eqb (type_of x (variable (fields_of x r).a)) (fields_of x r).b
+
+  pub of_types-all : (r : ℕ) → all of_type_passes (list_at x r) ≡ of_types_typed x r
+  of_types-all r = sym (all-map (λ (o : OfType). eqb (type_of x o.v) o.t) (λ j. record { v = variable (fields_of x j).a; t = (fields_of x j).b }) (list_at x r))
+
+  abbrev pub arm_passes : ℕ → ℕ → Bool
+  arm_passes t r = eqb (pattern_type x (fields_of x r).a) t
+
+  arms-of-type : (t : ℕ) (g : ℕ → Action) (l : List ℕ) → all (arm_passes t) l ≡ arms_of_type x t (arms_of x g l)
+  unfolding all arms_of arms_of_type
+  arms-of-type t g [] = refl
+  arms-of-type t g (r ∷ l) = ap (λ b. arm_passes t r && b) (arms-of-type t g l)
+
+  pub arms-all : (t r : ℕ) → all (arm_passes t) (list_at x r) ≡ arms_typed x t r
+  arms-all t r = arms-of-type t (action_at x) (list_at x r)

@@ -6,7 +6,7 @@ use mathlib.Core.List.{List, [], ◌∷◌}
 use Prim.Native.Nat.{ℕ, zero, suc, ◌+◌, ◌-◌, ◌<◌}
 use native.Mathlib.Nat.{add-zero, zero-add, add-suc, suc-add, le_of_suc-le-suc, not-suc-le-zero}
 use native.Mathlib.Omega.{arith}
-use lib.Dec.{T, eqb, eqb→eq}
+use lib.Dec.{T}
 use lib.ListN.{length, get_or}
 use Rattle.typing.specs.Rules.{Operator}
 
@@ -44,7 +44,3 @@ at_code f l t e c o =
     let low = o.low in
     let back : c - 16 + 16 ≡ c = omega arith in
     subst (λ (k : ℕ). T (f k (get_or l (c - 16) 0))) back (at (λ k n. f (k + 16) n) l t (c - 16) (omega (arith, o.high)))
-
-pub by_code : (f : ℕ → ℕ) (l : List ℕ) → T (every (λ k t. eqb t (f (k + 16))) 0 l) → length l ≡ 12
-    → (c : ℕ) → Operator c → get_or l (c - 16) 0 ≡ f c
-by_code f l t e c o = eqb→eq (get_or l (c - 16) 0) (f c) (at_code (λ k n. eqb n (f k)) l t e c o)

@@ -1,12 +1,12 @@
 -- What typing (refusal 8) reads off a row, and what its functions ask. Assumes nothing.
 use mathlib.Core.{Path.◌≡◌, Logic.◌⊎◌, Bool.Bool, Bool.true, Bool.false, Bool.◌&&◌, List.List}
-use Rattle.std.specs.Prelude.{ℕ, ◌≤◌, ◌<◌}
+use Rattle.std.specs.Prelude.{ℕ, ◌≤◌, ◌<◌, All}
 use lib.{Dec.eqb, ListN.length}
-use Rattle.model.specs.declared.{Image.Image, Verdict.Verdict, Refusal.TheVariants.Typing}
-use Rattle.model.specs.Answers.{row, variable, each}
+use Rattle.model.specs.declared.{Image.Image, Fields.Fields, Refusal.TheVariants.Typing}
+use Rattle.model.specs.Answers.{row, variable, each, Verdict}
 use Rattle.model.specs.Lists.{all}
 use Rattle.model.specs.Image.{Tables, none, bool, int, tables_of, type_of, fields_of, row_count}
-use Rattle.model.specs.Rows.{Equal, Less, AtMost, Binary, logic, arithmetic, comparison, Kind, is_variable, is_constant, is_unary, is_binary, Means, an_expression, a_pattern, an_offer, an_action, another, shape_of, is_kind}
+use Rattle.model.specs.Rows.{Equal, Less, AtMost, Binary, logic, arithmetic, comparison, Kind, is_variable, is_constant, is_unary, is_binary, Means, an_expression, a_pattern, an_offer, an_action, another, shape_of, is_kind, next_of}
 use Rattle.model.specs.Decode.{expression_at, pattern_at, condition_at, gets_at, of_types_at, arms_of, action_at, list_at, rule_at}
 use Rattle.model.specs.Typing.{type_of_unary, type_of_binary, type_of_exp, type_of_pat, typed_exp, typed_pat, typed_act, arms_of_type, typed}
 use Rattle.image.specs.Located.{Formed, Rooted}
@@ -38,6 +38,20 @@ of_types_typed x r = all (λ o. eqb (type_of x o.v) o.t) (of_types_at x r)
 
 abbrev pub arms_typed : Tables → ℕ → ℕ → Bool
 arms_typed x t r = arms_of_type x t (arms_of x (action_at x) (list_at x r))
+
+-- a row of a list that names the next in field c, and whose fields may be put to a test; a list of such rows
+pub record TestedRow (s : List ℕ) (i : Image) (callable : Fields → Type 0) (r : ℕ) : Type 0 where
+  pub inside : r < row_count i
+  pub next : next_of (tables_of s) r ≡ (fields_of (tables_of s) r).c
+  pub may : callable (fields_of (tables_of s) r)
+
+pub record TestedList (s : List ℕ) (i : Image) (callable : Fields → Type 0) (first : ℕ) : Type 0 where
+  pub formed : Formed s i
+  pub rows : All (TestedRow s i callable) (list_at (tables_of s) first)
+
+-- b is whether the rows of a list pass, whatever p is that each answer to a row's fields says of the row
+abbrev pub AllPass : (Fields → Bool → Type 0) → Tables → List ℕ → Bool → Type 0
+AllPass answers x l b = (p : ℕ → Bool) → All (λ r. (t : Bool) → answers (fields_of x r) t → t ≡ p r) l → b ≡ all p l
 
 -- the variable of the range in row r is int
 abbrev pub range_typed : Tables → ℕ → Bool

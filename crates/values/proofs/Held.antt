@@ -1,9 +1,10 @@
 -- What a signed local's 32 bits read back as, and the operations on ints computed in such locals. Assumes nothing.
-use mathlib.Core.Path.{◌≡◌, ap, ◌∙◌}
+use mathlib.Core.{Path.◌≡◌, Path.ap, Path.◌∙◌, List.List}
 use Prim.Native.Nat.{ℕ, ◌+◌, ◌*◌, ◌^◌, ◌≤◌, ◌<◌}
 use native.Mathlib.{Nat.mul-le-mul, Omega.arith}
-use lib.{IntN.ℤ, IntN.pos, IntN.negsuc, IntN.◌+ℤ◌, IntN.◌-ℤ◌, IntN.◌*ℤ◌, Signed.mag, Signed.quot_z, Signed.rem_z, Signed.mag_rem}
+use lib.{IntN.ℤ, IntN.pos, IntN.negsuc, IntN.◌+ℤ◌, IntN.◌-ℤ◌, IntN.◌*ℤ◌, Signed.mag, Signed.quot_z, Signed.rem_z, Signed.mag_rem, ListN.length, ListN.get_or, ListN.set, ListN.take}
 use mir.{Syntax.w32, Val.SFits, Val.Fits, Val.to_z, Val.of_z, ValLaws.to_z-of_z}
+use Rattle.std.proofs.lemmas.List.{take_more, take_more_set}
 use Rattle.model.specs.Values.{wrap}
 use Rattle.values.specs.Range.{InRange, BothInRange}
 use Rattle.values.proofs.Sizes.{mag-add, mag-sub, mag-mul, mag-quot, flip, flips, mag-flip}
@@ -14,6 +15,11 @@ held z = to_z w32 (of_z w32 z)
 
 pub held-is : (z : ℤ) → mag z < 2 ^ 31 → held z ≡ z
 held-is z h = to_z-of_z w32 z (record { sfits = h })
+
+-- one more word of l written from a local
+pub more-held : (l w : List ℤ) (i : ℕ) {z : ℤ} → i < length l → i < length w → mag z < 2 ^ 31 → z ≡ get_or l i (pos 0) → take i w ≡ take i l
+    → take (i + 1) (set w i (held z)) ≡ take (i + 1) l
+more-held l w i {z} p q m e f = rw (held-is z m, take_more_set w i z q, take_more l i (pos 0) p, e, f)
 
 -- -1 - z, computed in a local
 pub flip-fits : {y z : ℤ} → y ≡ z → mag z < 2 ^ 31 → SFits w32 (negsuc 0 -ℤ y)

@@ -107,7 +107,7 @@ pub fn of_size(half: u16, n: u16, z: i32) -> bool
 pub fn of_bool(b: bool) -> i32
     ensures { result ≡ of_bool b }
 {
-    if b { 1 } else { 0 }
+    i32::from(b)
 }
 
 // Two's complement.

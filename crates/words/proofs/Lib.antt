@@ -1,3 +1,2 @@
-pub mod Copied
-pub mod Written
 pub mod Words
+pub mod Written

@@ -3,65 +3,40 @@ use model::{Move, Refusal, State};
 use std::io;
 use values::size;
 
-pub(crate) fn text(rt: &impl Print, bytes: &[u8]) -> io::Result<()> {
-    rt.write_all(bytes)
-}
-
-fn signed(rt: &impl Print, n: i32) -> io::Result<()> {
-    rt.print(n)
-}
-
-fn unsigned(rt: &impl Print, n: u32, after: &[u8]) -> io::Result<()> {
-    rt.print(n)?;
-    text(rt, after)
-}
-
-// The words from a place to another, each behind a blank; a place past the last word ends them too.
-fn some(rt: &impl Print, words: &[i32], from: usize, end: usize) -> io::Result<()> {
-    for i in from..end.min(words.len()) {
-        text(rt, b" ")?;
-        signed(rt, words[i])?;
+// So many words from a place on, each behind a blank, and the line's end; there may be fewer.
+fn words(rt: &impl Print, words: &[i32], from: usize, count: usize) -> io::Result<()> {
+    for n in words.iter().skip(from).take(count) {
+        print!(rt; " {n}")?;
     }
-    Ok(())
+    rt.write_all(b"\n")
 }
 
-// Where the values of a label end, whose second word is their number.
-fn end(label: &[i32]) -> usize {
-    if label.len() < 2 {
-        return 0;
+// How many values a label has: its second word says it.
+fn count(label: &[i32]) -> usize {
+    match label.get(1) {
+        Some(n) if size(*n) <= 8 => size(*n) as usize,
+        _ => 0,
     }
-    let count = size(label[1]) as usize;
-    if 8 < count {
-        return 2;
-    }
-    count + 2
 }
 
 // A label: its gate and its values.
-fn label(rt: &impl Print, words: &[i32]) -> io::Result<()> {
-    if 0 < words.len() {
-        signed(rt, words[0])?;
+fn label(rt: &impl Print, label: &[i32]) -> io::Result<()> {
+    if let Some(gate) = label.first() {
+        rt.print(*gate)?;
     }
-    some(rt, words, 2, end(words))?;
-    text(rt, b"\n")
+    words(rt, label, 2, count(label))
 }
 
 pub(crate) fn moved(rt: &impl Print, q: State, m: Move, words: &[i32]) -> io::Result<()> {
-    let next = m.next;
-    unsigned(rt, q.0 as u32, b" ")?;
-    unsigned(rt, next.0 as u32, b" ")?;
-    unsigned(rt, m.units, b" ")?;
-    unsigned(rt, m.words, b" ")?;
+    print!(rt; "{} {} {} {} ", q.0, m.next.0, m.units, m.words)?;
     label(rt, words)
 }
 
 pub(crate) fn refused(rt: &impl Print, y: Refusal) -> io::Result<()> {
-    unsigned(rt, y.number() as u32, b" ")?;
-    unsigned(rt, y.place() as u32, b"\n")
+    println!(rt; "{} {}", y.number(), y.place())
 }
 
-pub(crate) fn store(rt: &impl Print, words: &[i32]) -> io::Result<()> {
-    text(rt, b"store")?;
-    some(rt, words, 0, words.len())?;
-    text(rt, b"\n")
+pub(crate) fn store(rt: &impl Print, store: &[i32]) -> io::Result<()> {
+    rt.write_all(b"store")?;
+    words(rt, store, 0, store.len())
 }

@@ -7,15 +7,10 @@ mod line;
 mod run;
 
 use ended::ended;
-use model::Image;
+use loading::load_image;
 use std::io;
-use std::io::Read;
-
-// One byte more than an image may have is read, so that a longer one is refused.
-const ROOM: u64 = Image::LENGTH as u64 + 1;
 
 fn main(rt: HostRuntime) -> io::Result<()> {
-    let mut image = Vec::new(rt.alloc());
-    rt.reader().take(ROOM).read_to_end(&mut image)?;
+    let image = load_image(rt.reader(), rt.alloc())?;
     ended(run::table_writer(&rt, &image))
 }

@@ -1,6 +1,6 @@
 // The run: start, then step after step.
 use crate::line;
-use model::{Image, State, Stepped, Verdict};
+use model::{Image, State};
 use starting::start;
 use std::io;
 use stepping::take_step;
@@ -16,37 +16,24 @@ const UNITS: u32 = 100;
 
 const STEPS: u32 = 1000;
 
-// Where a run stands: the state, and whether the run has ended there.
-#[derive(Clone, Copy)]
-struct Place {
-    state: State,
-    ended: bool,
-}
-
-// A step and its line. The table writer makes no choice and receives nothing: its script is empty.
+// A step and its line; the next state, or none where the run has ended. The table writer makes no choice and receives
+// nothing: its script is empty.
 fn one(
     rt: &impl Print,
     image: &[u8],
     q: State,
     store: &mut [i32],
     label: &mut [i32],
-) -> io::Result<Place> {
+) -> io::Result<Option<State>> {
     let r = take_step(image, q, store, b"", UNITS, label);
     match r {
-        Stepped::Moved(m) => {
-            let next = m.next;
+        Ok(m) => {
             line::moved(rt, q, m, label)?;
-            Ok(Place {
-                state: next,
-                ended: false,
-            })
+            Ok(Some(m.next))
         }
-        Stepped::NotMoved(y) => {
+        Err(y) => {
             line::refused(rt, y)?;
-            Ok(Place {
-                state: q,
-                ended: true,
-            })
+            Ok(None)
         }
     }
 }
@@ -54,11 +41,10 @@ fn one(
 fn steps(rt: &impl Print, image: &[u8], store: &mut [i32], label: &mut [i32]) -> io::Result<()> {
     let mut q = State(0);
     for _ in 0..STEPS {
-        let p = one(rt, image, q, store, label)?;
-        if p.ended {
-            return Ok(());
-        }
-        q = p.state;
+        let Some(next) = one(rt, image, q, store, label)? else {
+            break;
+        };
+        q = next;
     }
     Ok(())
 }
@@ -68,9 +54,9 @@ pub(crate) fn table_writer(rt: &impl Print, image: &[u8]) -> io::Result<()> {
     let mut store = [0i32; VARIABLES];
     let mut label = [0i32; Image::LABEL as usize];
     match start(image, &params, &mut store) {
-        Verdict::Refused(y) => line::refused(rt, y),
-        Verdict::Accepted => {
-            line::text(rt, b"state next units words gate values\n")?;
+        Err(y) => line::refused(rt, y),
+        Ok(()) => {
+            rt.write_all(b"state next units words gate values\n")?;
             steps(rt, image, &mut store, &mut label)?;
             line::store(rt, &store)
         }

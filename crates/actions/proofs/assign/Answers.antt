@@ -17,14 +17,14 @@ eval-requires c = item-value (here-row c.requires c.if-r-eq-NONE.false) c.if-r-e
 pub bounds-store-w : goal.bounds-store-w
 bounds-store-w c = item-inside (here-row c.requires c.if-r-eq-NONE.false) c.if-r-eq-NONE.false c.row-w.ensures
 
-pub returns-in-Unknown : goal.returns-in-Unknown
-returns-in-Unknown c =
-    assign-unknown (here-row c.requires c.if-r-eq-NONE.false) c.if-r-eq-NONE.false c.row-w.ensures c.eval.ensures c.in-Unknown.is
+pub returns-in-None : goal.returns-in-None
+returns-in-None c =
+    assign-unknown (here-row c.requires c.if-r-eq-NONE.false) c.if-r-eq-NONE.false c.row-w.ensures c.eval.ensures c.in-None.is
 
-pub returns-in-Is : goal.returns-in-Is
-returns-in-Is c =
+pub returns-in-Some : goal.returns-in-Some
+returns-in-Some c =
     let f = c.if-r-eq-NONE.false in
     let h = here-row c.requires f in
     let e = c.row-w.ensures in
-    assign-stores h f e c.eval.ensures c.in-Is.is (assign-none (item-next h f e).1 c.if-w.false) refl
-    (local-is (item-value h f e) c.eval.ensures c.in-Is.is)
+    assign-stores h f e c.eval.ensures c.in-Some.is (assign-none (item-next h f e).1 c.if-w.false) refl
+    (local-is (item-value h f e) c.eval.ensures c.in-Some.is)

@@ -28,29 +28,21 @@ pub enum_told-1 : goal.enum_told-1
 enum_told-1 c =
     c.in-Ended.in-Ended-own.keys1
 
-pub at_word-requires : goal.at_word-requires
-at_word-requires c =
-    tt
-
 pub returns-in-Ended : goal.returns-in-Ended
 returns-in-Ended c =
-    record { does = λ values. rw c.at_word.ensures (draw-ended c.requires.trailer (here-row c.loop-r.invariant.1 c.loop-r-test.true) c.loop-r-test.true c.row-w.ensures _ _ c.args.run _ _ c.size.ensures c.read_word.ensures values c.in-Ended.is ∙ c.loop-r.invariant.2 values) }
+    record { does = λ values. draw-ended c.requires.trailer (here-row c.loop-r.invariant.1 c.loop-r-test.true) c.loop-r-test.true c.row-w.ensures _ _ c.args.run _ _ c.size.ensures c.read_word.ensures values c.in-Ended.is ∙ c.loop-r.invariant.2 values }
 
 pub enum_told-in-OutOfRange : goal.enum_told-in-OutOfRange
 enum_told-in-OutOfRange c =
     c.in-OutOfRange.in-OutOfRange-own.keys2
 
-pub overflow_add-words : goal.overflow_add-words
-overflow_add-words c =
+pub overflow_add-result : goal.overflow_add-result
+overflow_add-result c =
     let i = word-inside _ _ _ c.read_word.ensures (λ e. let k : ◌≡◌ {A = ℕ} 0 1 = cc in absurd (omega arith)) in search rules
-
-pub at_word-requires-in-OutOfRange : goal.at_word-requires-in-OutOfRange
-at_word-requires-in-OutOfRange c =
-    tt
 
 pub returns-in-OutOfRange : goal.returns-in-OutOfRange
 returns-in-OutOfRange c =
-    record { does = λ values. rw c.at_word-in-OutOfRange.ensures (draw-out c.requires.trailer (here-row c.loop-r.invariant.1 c.loop-r-test.true) c.loop-r-test.true c.row-w.ensures _ _ c.args.run _ _ c.size.ensures c.read_word.ensures values c.in-OutOfRange.is ∙ c.loop-r.invariant.2 values) }
+    record { does = λ values. draw-out c.requires.trailer (here-row c.loop-r.invariant.1 c.loop-r-test.true) c.loop-r-test.true c.row-w.ensures _ _ c.args.run _ _ c.size.ensures c.read_word.ensures values c.in-OutOfRange.is ∙ c.loop-r.invariant.2 values }
 
 pub enum_known-z : goal.enum_known-z
 enum_known-z c =
@@ -60,8 +52,8 @@ pub bounds-store-w : goal.bounds-store-w
 bounds-store-w c =
     omega (arith, drawn-inside c.requires.trailer (here-row c.loop-r.invariant.1 c.loop-r-test.true) c.loop-r-test.true c.row-w.ensures, c.loop-r.invariant.0)
 
-pub overflow_add-words-in-Read : goal.overflow_add-words-in-Read
-overflow_add-words-in-Read c =
+pub overflow_add-words : goal.overflow_add-words
+overflow_add-words c =
     let i = word-inside _ _ _ c.read_word.ensures (λ e. let k : ◌≡◌ {A = ℕ} 0 1 = cc in absurd (omega arith)) in search rules
 
 pub loop-r-smaller : goal.loop-r-smaller
@@ -76,10 +68,6 @@ loop-r-preserved c =
       λ values. draw-read c.requires.trailer (here-row c.loop-r.invariant.1 c.loop-r-test.true) c.loop-r-test.true c.row-w.ensures _ _ c.args.run _ _ c.size.ensures c.read_word.ensures values c.in-Read.is l ∙ c.loop-r.invariant.2 values,
     )
 
-pub at_word-requires-2 : goal.at_word-requires-2
-at_word-requires-2 c =
-    tt
-
 pub returns : goal.returns
 returns c =
-    record { does = λ values. rw c.at_word-2.ensures (draw-none c.loop-r.invariant.1 c.loop-r-test.false _ _ _ ∙ c.loop-r.invariant.2 values) }
+    record { does = λ values. draw-none c.loop-r.invariant.1 c.loop-r-test.false _ _ _ ∙ c.loop-r.invariant.2 values }

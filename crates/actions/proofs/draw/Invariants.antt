@@ -10,7 +10,7 @@ use Rattle.actions.specs.Words.{drawing}
 use Rattle.actions.proofs.draw.Given as goal
 
 abbrev pub invariant-loop-r : goal.invariant-loop-r
-invariant-loop-r l = (length l.store ≡ length l.initial.store) × Items of_type l.image l.i.rows l.r l.initial.store × ((values : List ℤ) → drawing (tables_of l.image) (of_types_at (tables_of l.image) l.r) l.script l.place (state_of (run_at l.run l.words) l.store values) ≡ drawing (tables_of l.image) (of_types_at (tables_of l.image) l.first) l.script l.place (state_of l.run l.initial.store values))
+invariant-loop-r l = (length l.store ≡ length l.initial.store) × Items of_type l.x.image.now l.x.trailer.rows l.r l.initial.store × ((values : List ℤ) → drawing (tables_of l.x.image.now) (of_types_at (tables_of l.x.image.now) l.r) l.script l.place (state_of (run_at l.run l.words) l.store values) ≡ drawing (tables_of l.x.image.now) (of_types_at (tables_of l.x.image.now) l.first) l.script l.place (state_of l.run l.initial.store values))
 
 abbrev pub decreases-loop-r : goal.decreases-loop-r
 decreases-loop-r l = (l.r + 1) % 65536

@@ -8,7 +8,7 @@ use Rattle.binding.specs.Bound.{bound_offers, Offers}
 use Rattle.binding.proofs.bound_offers.Given as goal
 
 abbrev pub invariant-loop-r : goal.invariant-loop-r
-invariant-loop-r l = Offers l.image l.i l.r l.uses l.defs × (bound_offers (offers_at (tables_of l.image) l.r) ≡ bound_offers (offers_at (tables_of l.image) l.first))
+invariant-loop-r l = Offers l.x.image.now l.x.trailer l.r l.masks × (bound_offers (offers_at (tables_of l.x.image.now) l.r) ≡ bound_offers (offers_at (tables_of l.x.image.now) l.first))
 
 abbrev pub decreases-loop-r : goal.decreases-loop-r
 decreases-loop-r l = (l.r + 1) % 65536

@@ -8,7 +8,7 @@ use Rattle.binding.specs.Bound.{bits_at, Vector}
 use Rattle.binding.proofs.distinct_items.Given as goal
 
 abbrev pub invariant-loop-r : goal.invariant-loop-r
-invariant-loop-r l = Vector l.image l.i l.r l.defs × (distinct (bits_at (tables_of l.image) l.r) ≡ distinct (bits_at (tables_of l.image) l.first))
+invariant-loop-r l = Vector l.x.image.now l.x.trailer l.r l.masks × (distinct (bits_at (tables_of l.x.image.now) l.r) ≡ distinct (bits_at (tables_of l.x.image.now) l.first))
 
 abbrev pub decreases-loop-r : goal.decreases-loop-r
 decreases-loop-r l = (l.r + 1) % 65536

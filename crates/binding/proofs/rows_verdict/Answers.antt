@@ -1,30 +1,26 @@
--- `binding::rows_verdict` meets its contract. The loop's invariant: the rules of the rows below r hold. Assumes nothing.
-use mathlib.Core.Path.{sym, ◌∙◌}
+-- `binding::rows_verdict` meets its contract. Assumes nothing.
+use Rattle.std.proofs.Common.{rules, tests}
 use native.Mathlib.Omega.{arith}
-use Rattle.model.proofs.Order.{lowest-pass}
-use Rattle.binding.proofs.Lowest.{start, rows_few, rule-at, refused, accepted}
+use Rattle.std.proofs.lemmas.Iterator.{serves_from_Range}
+use Rattle.model.specs.Image.{tables_of}
+use Rattle.model.specs.Binding.{bound}
+use Rattle.model.proofs.Found.{found, found-refused, none-accepted}
+use Rattle.image.proofs.Laid.{rows-count}
+use Rattle.binding.specs.Bound.{binding_verdict, Rule}
 use Rattle.binding.proofs.rows_verdict.Goals as goal
 
-pub parameters-allowed-requires : goal.parameters-allowed-requires
-parameters-allowed-requires c = c.requires.rooted.formed
+pub find-requires-clause-callable : goal.find-requires-clause-callable
+find-requires-clause-callable c =
+    serves_from_Range (λ r q k. search (rules, tests)) (λ r low high. let h : Rule c.args.x.now.image.now c.args.x.now.trailer r c.args.masks.now c.parameters-allowed.result = record { ruled = c.requires; inside = omega (arith, rows-count c.requires.rooted.formed.located, c.row_count-n.ensures); parameters = c.parameters-allowed.ensures } in search (rules, tests))
 
-pub overflow_cast-n : goal.overflow_cast-n
-overflow_cast-n c = omega (arith, rows_few c.requires)
+pub returns-in-Some : goal.returns-in-Some
+unfolding binding_verdict
+returns-in-Some c =
+    let p = bound (tables_of c.args.x.now.image.now) in
+    found-refused p _ _ (found p _ _ _ c.find.ensures.ran (λ r b q k. search (rules, tests)) c.row_count-n.ensures) c.in-Some.is
 
-pub loop-r-init : goal.loop-r-init
-loop-r-init c = (omega arith, start _)
-
-pub bound-requires : goal.bound-requires
-bound-requires c = rule-at c.requires c.parameters-allowed.ensures (omega arith)
-
-pub returns-then-not-bound : goal.returns-then-not-bound
-returns-then-not-bound c = refused c.requires _ _ c.loop-r.invariant.1 c.loop-r-test.true c.bound.ensures c.if-not-bound.true
-
-pub overflow_add-r : goal.overflow_add-r
-overflow_add-r c = omega (arith, rows_few c.requires)
-
-pub loop-r-preserved : goal.loop-r-preserved
-loop-r-preserved c = (omega arith, lowest-pass _ _ c.loop-r.invariant.1 (sym c.bound.ensures ∙ c.if-not-bound.false))
-
-pub returns : goal.returns
-returns c = accepted c.requires _ c.loop-r.invariant.1 c.loop-r.invariant.0 c.loop-r-test.false
+pub returns-in-None : goal.returns-in-None
+unfolding binding_verdict
+returns-in-None c =
+    let p = bound (tables_of c.args.x.now.image.now) in
+    none-accepted p _ _ (found p _ _ _ c.find.ensures.ran (λ r b q k. search (rules, tests)) c.row_count-n.ensures) c.in-None.is

@@ -11,4 +11,4 @@ returns-in-Stops c =
 
 pub returns-in-Jumps : goal.returns-in-Jumps
 returns-in-Jumps c =
-    told-jumps c.args.ran c.args.at c.args.budget c.args.store.now c.args.label.now c.args.work.now c.args.values.now c.in-Jumps.is c.copy.ensures c.put_label.ensures
+    told-jumps c.args.ran c.args.at c.args.budget c.args.store.now c.args.label.now c.args.work.now c.args.values.now c.in-Jumps.is c.copy_from_slice.ensures.after c.put_label.ensures

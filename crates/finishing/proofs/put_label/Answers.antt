@@ -1,23 +1,22 @@
-use borrow.Author.Rules.{rules}
-use mathlib.Core.{Path.◌≡◌, Path.refl, Path.◌∙◌}
+-- `finishing::put_label` meets its contract. Assumes nothing.
+use mathlib.Core.{Path.◌≡◌, Path.◌∙◌, Path.ap, Path.sym, List.◌++◌}
 use native.Mathlib.Omega.{arith}
-use lib.ListN.{length-set}
+use lib.{ListN.drop, ListN.length, ListN.take, Seq.length-take-le, Seq.take_all}
 use Rattle.model.specs.Run.{label_words}
 use Rattle.actions.specs.State.{label_of}
-use Rattle.words.proofs.Copied.{copied-held, copied-front}
+use Rattle.values.proofs.Held.{more-held}
 use Rattle.finishing.proofs.Words.{words-ten}
 use Rattle.finishing.proofs.put_label.Goals as goal
-
-pub loop-k-init : goal.loop-k-init
-loop-k-init c = (search rules, refl, refl)
 
 pub loop-k-preserved : goal.loop-k-preserved
 loop-k-preserved c =
     let ten = words-ten c.args.run c.args.values.now c.requires.1 in
-    (omega arith, length-set c.loop-k.label c.loop-k.k _ ∙ c.loop-k.invariant.1, copied-held (label_words (label_of c.args.run c.args.values.now)) c.args.label.now c.loop-k.label c.loop-k.k (omega arith) (omega arith) c.loop-k.invariant.2 c.label_word.type_inv c.label_word.ensures)
+    let room : length (take 10 c.args.label.now) ≡ 10 = length-take-le 10 c.args.label.now c.requires.0 in
+    more-held (label_words (label_of c.args.run c.args.values.now)) c.loop-k.word-items c.loop-k.k (omega arith) (omega arith) c.label_word.type_inv c.label_word.ensures c.loop-k.invariant
 
 pub returns : goal.returns
 returns c =
     let ten = words-ten c.args.run c.args.values.now c.requires.1 in
-    let e : c.loop-k.k ≡ 10 = omega arith in
-    rw e at (copied-front (label_words (label_of c.args.run c.args.values.now)) c.args.label.now c.loop-k.label c.loop-k.k (omega arith) c.loop-k.invariant.2)
+    let room : length (take 10 c.args.label.now) ≡ 10 = length-take-le 10 c.args.label.now c.requires.0 in
+    ap (λ ws. ws ++ drop 10 c.args.label.now)
+    (sym (take_all c.loop-k.k c.loop-k.word-items (omega arith)) ∙ c.loop-k.invariant ∙ take_all c.loop-k.k (label_words (label_of c.args.run c.args.values.now)) (omega arith))

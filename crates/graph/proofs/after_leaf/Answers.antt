@@ -8,7 +8,7 @@ returns-then-w-eq52 c = rw c.if-w-eq52.true c.spoken.ensures
 
 pub returns-then-w-eq53 : goal.returns-then-w-eq53
 unfolding after_leaf
-returns-then-w-eq53 c = rw c.if-w-eq53.true
+returns-then-w-eq53 c = rw c.if-w-eq53.true c.nowhere.ensures
 
 pub returns : goal.returns
 unfolding after_leaf

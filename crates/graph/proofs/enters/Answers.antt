@@ -1,11 +1,18 @@
-use borrow.Author.Tests.{ne_eqb}
 use Rattle.graph.specs.Ways.{enters}
 use Rattle.graph.proofs.enters.Goals as goal
 
-pub returns-then-k-eq1 : goal.returns-then-k-eq1
+pub returns-in-Leaf : goal.returns-in-Leaf
 unfolding enters
-returns-then-k-eq1 c = rw c.if-k-eq1.true
+returns-in-Leaf c = rw c.in-Leaf.is
 
-pub returns : goal.returns
+pub returns-in-InTurn : goal.returns-in-InTurn
 unfolding enters
-returns c = rw (enters, ne_eqb c.args.k 1 c.if-k-eq1.false)
+returns-in-InTurn c = rw c.in-InTurn.is
+
+pub returns-in-Either : goal.returns-in-Either
+unfolding enters
+returns-in-Either c = rw c.in-Either.is
+
+pub returns-in-Again : goal.returns-in-Again
+unfolding enters
+returns-in-Again c = rw c.in-Again.is

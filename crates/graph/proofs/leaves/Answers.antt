@@ -1,19 +1,18 @@
-use borrow.Author.Tests.{ne_eqb}
 use Rattle.graph.specs.Ways.{leaves}
 use Rattle.graph.proofs.leaves.Goals as goal
 
-pub returns-then-k-eq0 : goal.returns-then-k-eq0
+pub returns-in-Leaf : goal.returns-in-Leaf
 unfolding leaves
-returns-then-k-eq0 c = rw c.if-k-eq0.true c.after_leaf.ensures
+returns-in-Leaf c = rw c.in-Leaf.is c.after_leaf.ensures
 
-pub returns-then-k-eq1 : goal.returns-then-k-eq1
+pub returns-in-InTurn : goal.returns-in-InTurn
 unfolding leaves
-returns-then-k-eq1 c = rw c.if-k-eq1.true
+returns-in-InTurn c = rw c.in-InTurn.is
 
-pub returns-then-k-eq2 : goal.returns-then-k-eq2
+pub returns-in-Either : goal.returns-in-Either
 unfolding leaves
-returns-then-k-eq2 c = rw c.if-k-eq2.true c.either.ensures
+returns-in-Either c = rw c.in-Either.is c.either.ensures
 
-pub returns : goal.returns
+pub returns-in-Again : goal.returns-in-Again
 unfolding leaves
-returns c = rw (leaves, ne_eqb c.args.k 0 c.if-k-eq0.false, ne_eqb c.args.k 1 c.if-k-eq1.false, ne_eqb c.args.k 2 c.if-k-eq2.false) c.either-2.ensures
+returns-in-Again c = rw c.in-Again.is c.either-in-Again.ensures

@@ -8,23 +8,23 @@ use Rattle.graph.proofs.Walks.{gave-drawn, drawn-refused, drawn-graph}
 use Rattle.graph.proofs.put_drawn.Goals as goal
 
 pub returns-then-n-lt8 : goal.returns-then-n-lt8
-returns-then-n-lt8 c = rw (gave-drawn c.requires, c.in-Refused.is, drawn-refused c.args.image.now c.in-Refused.y (omega (arith, c.number-n.ensures)), ← c.number-n.ensures, ← c.place-p.ensures, ← c.pointing-st.ensures) c.put_refused.ensures
+returns-then-n-lt8 c = rw (gave-drawn c.requires, c.in-Err.is, drawn-refused c.args.image.now c.in-Err.y (omega (arith, c.number-n.ensures)), ← c.number-n.ensures, ← c.place-p.ensures, ← c.pointing-st.ensures) c.put_refused.ensures
 
-pub trailer-i-requires : goal.trailer-i-requires
-trailer-i-requires c = let s = gave-shown c.requires _ c.in-Refused.is in s.trailed (omega (arith, c.number-n.ensures))
+pub trailer-requires : goal.trailer-requires
+trailer-requires c = let s = gave-shown c.requires _ c.in-Err.is in s.trailed (omega (arith, c.number-n.ensures))
 
 pub put_graph-requires : goal.put_graph-requires
-put_graph-requires c = rw c.trailer-i.ensures ((gave-shown c.requires _ c.in-Refused.is).located (omega (arith, c.number-n.ensures)))
+put_graph-requires c = rw c.trailer.ensures ((gave-shown c.requires _ c.in-Err.is).located (omega (arith, c.number-n.ensures)))
 
-pub trailer-i-requires-in-Accepted : goal.trailer-i-requires-in-Accepted
-trailer-i-requires-in-Accepted c = let l = laid (gave-located c.requires _ c.in-Accepted.is refl) in omega (arith, l.long)
+pub trailer-requires-in-Ok : goal.trailer-requires-in-Ok
+trailer-requires-in-Ok c = let l = laid (gave-located c.requires _ c.in-Ok.is refl) in omega (arith, l.long)
 
-pub put_graph-requires-in-Accepted : goal.put_graph-requires-in-Accepted
-put_graph-requires-in-Accepted c = gave-located c.requires _ c.in-Accepted.is c.trailer-i-in-Accepted.ensures
+pub put_graph-requires-in-Ok : goal.put_graph-requires-in-Ok
+put_graph-requires-in-Ok c = gave-located c.requires _ c.in-Ok.is c.trailer-in-Ok.ensures
 
 pub returns-else-n-lt8 : goal.returns-else-n-lt8
-returns-else-n-lt8 c = rw (gave-drawn c.requires, c.in-Refused.is, drawn-graph c.args.image.now c.in-Refused.y (omega (arith, c.number-n.ensures)), ← c.number-n.ensures, ← c.place-p.ensures, ← c.pointing-st.ensures, ← c.trailer-i.ensures) c.put_graph.ensures
+returns-else-n-lt8 c = rw (gave-drawn c.requires, c.in-Err.is, drawn-graph c.args.image.now c.in-Err.y (omega (arith, c.number-n.ensures)), ← c.number-n.ensures, ← c.place-p.ensures, ← c.pointing-st.ensures, ← c.trailer.ensures) c.put_graph.ensures
 
-pub returns-in-Accepted : goal.returns-in-Accepted
+pub returns-in-Ok : goal.returns-in-Ok
 unfolding drawn_by
-returns-in-Accepted c = rw (gave-drawn c.requires, c.in-Accepted.is, ← c.trailer-i-in-Accepted.ensures, ← c.plain_style-st.ensures) c.put_graph-in-Accepted.ensures
+returns-in-Ok c = rw (gave-drawn c.requires, c.in-Ok.is, ← c.trailer-in-Ok.ensures, ← c.plain_style.ensures) c.put_graph-in-Ok.ensures

@@ -1,7 +1,7 @@
-use Rattle.text.proofs.Pages.{emit-then}
+use Rattle.text.proofs.Writing.{written-then}
 use Rattle.graph.specs.Ways.{refused_text}
 use Rattle.graph.proofs.put_refused.Goals as goal
 
 pub returns : goal.returns
 unfolding refused_text
-returns c = emit-then (emit-then (emit-then (emit-then c.put_said-a.ensures c.put_said-b.ensures) c.put_refusal-c.ensures) c.put_said-d.ensures) c.put_said.ensures
+returns c = written-then (written-then (written-then (written-then c.put_said.ensures c.put_said-2.ensures) c.put_refusal.ensures) c.put_said-3.ensures) c.put_said-4.ensures

@@ -7,4 +7,4 @@ returns-then-reached c = rw (spoken, ← c.reached.ensures, c.if-reached.true, �
 
 pub returns : goal.returns
 unfolding spoken
-returns c = rw (spoken, ← c.reached.ensures, c.if-reached.false)
+returns c = rw (spoken, ← c.reached.ensures, c.if-reached.false) c.nowhere.ensures

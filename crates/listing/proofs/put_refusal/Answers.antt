@@ -1,10 +1,12 @@
 use native.Mathlib.Omega.{arith}
-use Rattle.text.proofs.Put.{put_then}
+use lib.{ListN.length-append}
+use Rattle.text.proofs.Decimal.{decimal-after}
+use Rattle.text.proofs.Writing.{written-then}
 use Rattle.listing.proofs.Lines.{two-numbers}
 use Rattle.listing.proofs.put_refusal.Goals as goal
 
-pub returns : goal.returns
-returns c =
-    let a = c.put_number-second.ensures in
-    let b = c.put_number.ensures in
-    rw (two-numbers, ← c.number.ensures, ← c.place.ensures) (put_then a.1 (omega arith) b.1)
+pub returns-clause-most : goal.returns-clause-most
+returns-clause-most c = rw (two-numbers, length-append, ← c.number.ensures, ← c.place.ensures) (omega (arith, decimal-after c.number.result 32 (omega arith), decimal-after c.place.result 10 (omega arith)))
+
+pub returns-clause-line : goal.returns-clause-line
+returns-clause-line c = rw (two-numbers, ← c.number.ensures, ← c.place.ensures) (written-then c.put_number.ensures c.put_number-2.ensures)

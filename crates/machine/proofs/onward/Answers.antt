@@ -12,15 +12,15 @@ returns-then-p-ne-ENDS c = (c.requires.0, onward-over _ _ (out-over c.args.p c.i
 
 pub plus-requires : goal.plus-requires
 plus-requires c =
-    plus-range c.requires.1 (sym (ends_at c.args.p c.if-p-ne-ENDS.false)) c.value.ensures c.in-Is.is
+    plus-range c.requires.1 (sym (ends_at c.args.p c.if-p-ne-ENDS.false)) c.value.ensures c.in-Some.is
 
-pub returns-in-Is : goal.returns-in-Is
-returns-in-Is c = (
+pub returns-in-Some : goal.returns-in-Some
+returns-in-Some c = (
   told-ends,
   let e = sym (ends_at c.args.p c.if-p-ne-ENDS.false) in
-      onward-is _ _ e c.value.ensures out-ends c.in-Is.is (held-is c.plus.result c.plus.type_inv ∙ c.plus.ensures ∙ ap (λ (z : ℤ). plus half16 z (pos 1)) (value-held c.requires.1 e c.value.ensures c.in-Is.is)),
+      onward-is _ _ e c.value.ensures out-ends c.in-Some.is (held-is c.plus.result c.plus.type_inv ∙ c.plus.ensures ∙ ap (λ (z : ℤ). plus half16 z (pos 1)) (value-held c.requires.1 e c.value.ensures c.in-Some.is)),
 )
 
-pub returns-in-Unknown : goal.returns-in-Unknown
-returns-in-Unknown c =
-    (told-by c.stopped.ensures, onward-unknown _ _ (sym (ends_at c.args.p c.if-p-ne-ENDS.false)) c.value.ensures c.in-Unknown.is c.stopped.ensures.outcome)
+pub returns-in-None : goal.returns-in-None
+returns-in-None c =
+    (told-by c.stopped.ensures, onward-unknown _ _ (sym (ends_at c.args.p c.if-p-ne-ENDS.false)) c.value.ensures c.in-None.is c.stopped.ensures.outcome)

@@ -3,29 +3,14 @@ use native.Mathlib.Omega.{arith}
 use mathlib.Core.Path.{◌∙◌}
 use lib.ListN.{length-take}
 use Rattle.image.proofs.Laid.{rows-count}
-use Rattle.masks.proofs.Filling.{fit-front, filled-front}
+use Rattle.masks.proofs.Filling.{fit-front}
 use Rattle.masks.proofs.fill.Goals as goal
 
 pub slice_bounds-fill_rows-end : goal.slice_bounds-fill_rows-end
-slice_bounds-fill_rows-end c = omega (arith, rows-count c.requires.rooted.formed.located)
+slice_bounds-fill_rows-end c = omega (arith, c.requires.size, rows-count c.requires.rooted.formed.located)
 
 pub slice_bounds-fill_rows-end-2 : goal.slice_bounds-fill_rows-end-2
-slice_bounds-fill_rows-end-2 c = simp length-take (omega (arith, rows-count c.requires.rooted.formed.located))
-
-pub slice_bounds-fill_rows-end-3 : goal.slice_bounds-fill_rows-end-3
-slice_bounds-fill_rows-end-3 c = omega (arith, rows-count c.requires.rooted.formed.located)
-
-pub slice_bounds-fill_rows-end-4 : goal.slice_bounds-fill_rows-end-4
-slice_bounds-fill_rows-end-4 c = simp length-take (omega (arith, rows-count c.requires.rooted.formed.located))
-
-pub slice_bounds-fill_rows-end-5 : goal.slice_bounds-fill_rows-end-5
-slice_bounds-fill_rows-end-5 c = omega (arith, rows-count c.requires.rooted.formed.located)
-
-pub slice_bounds-fill_rows-end-6 : goal.slice_bounds-fill_rows-end-6
-slice_bounds-fill_rows-end-6 c = simp length-take (omega (arith, rows-count c.requires.rooted.formed.located))
+slice_bounds-fill_rows-end-2 c = simp length-take (omega (arith, c.requires.size, rows-count c.requires.rooted.formed.located))
 
 pub fill_rows-requires : goal.fill_rows-requires
 fill_rows-requires c = fit-front c.requires (c.row_count-n.ensures ∙ rows-count c.requires.rooted.formed.located)
-
-pub returns : goal.returns
-returns c = filled-front _ _ _ c.fill_rows.ensures

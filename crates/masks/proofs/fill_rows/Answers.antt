@@ -1,19 +1,14 @@
 -- `masks::fill_rows` meets its contract. The loop's invariant: the masks of the rows below r are filled in. Assumes nothing.
 use native.Mathlib.Omega.{arith}
-use Rattle.masks.proofs.Filling.{begin, row_here, row_small, one_more, filled-all}
+use Rattle.masks.proofs.Filling.{row_small, one_more}
+use Rattle.image.proofs.Laid.{laid}
 use Rattle.masks.proofs.fill_rows.Goals as goal
 
-pub loop-r-init : goal.loop-r-init
-loop-r-init c = (c.requires.uses_size, begin _ _ _ c.requires)
+pub overflow_cast-r : goal.overflow_cast-r
+overflow_cast-r c = let l = laid c.requires.rooted.formed.located in omega (arith, l.rows_most, c.requires.size)
 
-pub fields-w-requires : goal.fields-w-requires
-fields-w-requires c = row_here c.loop-r.invariant.1 (omega arith)
-
-pub masks_of-m-requires : goal.masks_of-m-requires
-masks_of-m-requires c = row_small _ _ c.loop-r.invariant.1 c.fields-w.ensures
+pub masks_of-requires : goal.masks_of-requires
+masks_of-requires c = row_small _ _ c.loop-r.invariant c.fields.ensures
 
 pub loop-r-preserved : goal.loop-r-preserved
-loop-r-preserved c = (c.loop-r.invariant.0, one_more _ _ _ c.loop-r.invariant.1 (omega arith) c.fields-w.ensures c.masks_of-m.ensures)
-
-pub returns : goal.returns
-returns c = filled-all c.loop-r.invariant.1 (omega arith)
+loop-r-preserved c = one_more _ _ _ c.loop-r.invariant (omega arith) c.fields.ensures c.masks_of.ensures

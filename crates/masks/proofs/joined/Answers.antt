@@ -4,4 +4,4 @@ use Rattle.masks.proofs.joined.Goals as goal
 
 pub returns : goal.returns
 unfolding join
-returns c = rw (c.mask.ensures, c.mask-2.ensures)
+returns c = rw (c.masks_in-x.ensures, c.masks_in-y.ensures)

@@ -7,7 +7,4 @@ use Rattle.model.specs.Binding.{parameters_of}
 use Rattle.masks.proofs.parameters.Given as goal
 
 abbrev pub invariant-loop-v : goal.invariant-loop-v
-invariant-loop-v l = (l.v ≤ length (tables_of l.image).variables) × (l.m ≡ parameters_of (drop l.v (tables_of l.image).variables))
-
-abbrev pub decreases-loop-v : goal.decreases-loop-v
-decreases-loop-v l = l.v
+invariant-loop-v l = (l.v ≤ length (tables_of l.x.image.now).variables) × (l.m ≡ parameters_of (drop l.v (tables_of l.x.image.now).variables))

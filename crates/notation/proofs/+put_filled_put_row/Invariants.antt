@@ -1,8 +1,7 @@
-use mathlib.Core.Path.{◌≡◌}
-use Prim.Native.Nat.{◌+◌, ◌-◌, ◌*◌}
-use lib.ListN.{length, get_or, drop}
+use Prim.Native.Nat.{◌+◌, ◌*◌}
+use lib.ListN.{drop}
 use Rattle.model.specs.Image.{tables_of}
-use Rattle.text.specs.Emit.{page}
+use Rattle.notation.specs.declared.Aim.{Aim}
 use Rattle.notation.specs.Table.{notation}
 use Rattle.notation.specs.Texts.{line_from, filled, row_text}
 use Rattle.notation.proofs.Steps.{Left}
@@ -15,9 +14,6 @@ abbrev pub decreases-put_filled : goal.decreases-put_filled
 decreases-put_filled l = 2 * l.left + 1
 
 abbrev pub invariant-put_filled-loop-b : goal.invariant-put_filled-loop-b
-invariant-put_filled-loop-b l = (length l.text ≡ length l.initial.text)
-    × (l.b ≡ get_or notation l.j 10)
-    × Left (filled (λ t. row_text l.left (tables_of l.image) l.st t) l.st l.a l.w (line_from l.k notation)) (page l.at l.initial.text) (filled (λ t. row_text l.left (tables_of l.image) l.st t) l.st l.a l.w (drop l.j notation)) (page l.end l.text)
-
-abbrev pub decreases-put_filled-loop-b : goal.decreases-put_filled-loop-b
-decreases-put_filled-loop-b l = length notation - l.j
+invariant-put_filled-loop-b l =
+    let row = λ (t : Aim). row_text l.left (tables_of l.x.image.now) l.st t in
+    Left (filled row l.st l.a l.w (line_from l.k notation)) l.initial.page (filled row l.st l.a l.w (drop l.b-index l.marks)) l.page

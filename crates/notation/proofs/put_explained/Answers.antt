@@ -2,27 +2,27 @@ use mathlib.Core.Path.{refl}
 use native.Mathlib.Omega.{arith}
 use Rattle.image.proofs.Laid.{laid}
 use Rattle.listing.proofs.Listed.{gave-located}
-use Rattle.text.proofs.Pages.{emit-then}
+use Rattle.text.proofs.Writing.{written-then}
 use Rattle.notation.specs.Whole.{explained_by}
 use Rattle.notation.proofs.Verdicts.{gave-explained, gave-shown}
 use Rattle.notation.proofs.put_explained.Goals as goal
 
-pub put_shown-a-requires : goal.put_shown-a-requires
-put_shown-a-requires c = rw c.number-n.ensures (gave-shown c.requires _ c.in-Refused.is)
+pub put_shown-requires : goal.put_shown-requires
+put_shown-requires c = rw c.number-n.ensures (gave-shown c.requires _ c.in-Err.is)
 
-pub trailer-i-requires : goal.trailer-i-requires
-trailer-i-requires c = let l = laid (gave-located c.requires _ c.in-Accepted.is refl) in omega (arith, l.long)
+pub trailer-requires : goal.trailer-requires
+trailer-requires c = let l = laid (gave-located c.requires _ c.in-Ok.is refl) in omega (arith, l.long)
 
-pub put_listing-a-requires : goal.put_listing-a-requires
-put_listing-a-requires c = gave-located c.requires _ c.in-Accepted.is c.trailer-i.ensures
+pub put_listing-requires : goal.put_listing-requires
+put_listing-requires c = gave-located c.requires _ c.in-Ok.is c.trailer.ensures
 
 pub put_accepted-requires : goal.put_accepted-requires
-put_accepted-requires c = (gave-located c.requires _ c.in-Accepted.is c.trailer-i.ensures, c.requires.room)
+put_accepted-requires c = (gave-located c.requires _ c.in-Ok.is c.trailer.ensures, c.requires.room)
 
-pub returns-in-Refused : goal.returns-in-Refused
+pub returns-in-Err : goal.returns-in-Err
 unfolding explained_by
-returns-in-Refused c = rw (gave-explained c.requires, c.in-Refused.is, ← c.number-n.ensures, ← c.place-p.ensures, ← c.pointing-st.ensures) (emit-then c.put_shown-a.ensures c.put_refusal.ensures)
+returns-in-Err c = rw (gave-explained c.requires, c.in-Err.is, ← c.number-n.ensures, ← c.place-p.ensures, ← c.pointing-st.ensures) (written-then c.put_shown.ensures c.put_refusal.ensures)
 
-pub returns-in-Accepted : goal.returns-in-Accepted
+pub returns-in-Ok : goal.returns-in-Ok
 unfolding explained_by
-returns-in-Accepted c = rw (gave-explained c.requires, c.in-Accepted.is, ← c.trailer-i.ensures) (emit-then c.put_listing-a.ensures c.put_accepted.ensures)
+returns-in-Ok c = rw (gave-explained c.requires, c.in-Ok.is, ← c.trailer.ensures) (written-then c.put_listing.ensures c.put_accepted.ensures)

@@ -2,5 +2,5 @@
 use Rattle.ntif.proofs.Checking.{pack-refused}
 use Rattle.ntif.proofs.pack_verdict.Goals as goal
 
-pub returns-in-Refused : goal.returns-in-Refused
-returns-in-Refused c = pack-refused _ c.in-Refused.is c.pack_refusal.ensures
+pub returns-in-Err : goal.returns-in-Err
+returns-in-Err c = pack-refused _ c.in-Err.is c.pack_refusal.ensures

@@ -4,7 +4,7 @@ use Rattle.patterns.proofs.Tried.{was-in, was-back}
 use Rattle.patterns.proofs.restore.Goals as goal
 
 pub bounds-store-v : goal.bounds-store-v
-bounds-store-v c = (was-in (length c.args.store.now) c.requires c.in-Was.is).0
+bounds-store-v c = (was-in (length c.args.store.now) c.requires c.in-Some.is).0
 
-pub returns-in-Was : goal.returns-in-Was
-returns-in-Was c = was-back _ _ c.requires c.in-Was.is
+pub returns-in-Some : goal.returns-in-Some
+returns-in-Some c = was-back _ _ c.requires c.in-Some.is

@@ -1,24 +1,15 @@
 -- `initialisation` meets its contract: what each call asks is what those before it leave. Assumes nothing.
 use native.Mathlib.Omega.{arith}
-use Rattle.model.specs.Image.{tables_of}
 use Rattle.image.proofs.Laid.{laid, variables-count}
-use Rattle.sets.proofs.Finding.{top-is, given-of, begun-staged, judged-none, judged-at}
+use Rattle.sets.proofs.Finding.{given-of, begun-staged, judged-none, judged-at}
 use Rattle.sets.proofs.initialisation.Goals as goal
 
-pub variable_count-requires : goal.variable_count-requires
-variable_count-requires c = c.requires.lending.rooted.formed.located
-
-pub all-top-requires : goal.all-top-requires
-all-top-requires c = let l = c.requires.lending.rooted.formed.located in omega (arith, (laid l).variables_most, variables-count l, c.variable_count.ensures)
-
-pub begin-requires : goal.begin-requires
-begin-requires c =
-    let d = c.requires in
-    record { formed = d.lending.rooted.formed; all = top-is (tables_of c.args.image.now) _ _ c.variable_count.ensures c.all-top.ensures; size = d.size }
+pub full-top-requires : goal.full-top-requires
+full-top-requires c = let l = c.requires.rows.lending.rooted.formed.located in omega (arith, (laid l).variables_most, variables-count l, c.variable_count.ensures)
 
 pub settle-wrong-requires : goal.settle-wrong-requires
 settle-wrong-requires c = record {
-  given = given-of c.requires _ _ c.variable_count.ensures c.all-top.ensures;
+  given = given-of c.requires _ _ c.variable_count.ensures c.full-top.ensures;
   stage = begun-staged c.requires c.begin.ensures;
 }
 

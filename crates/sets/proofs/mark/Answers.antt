@@ -3,7 +3,7 @@ use Rattle.sets.proofs.Turning.{marked-fine, marked-wrong}
 use Rattle.sets.proofs.mark.Goals as goal
 
 pub returns-then-fine : goal.returns-then-fine
-returns-then-fine c = marked-fine _ _ _ c.requires c.ranges.wrong.fits c.if-fine.true
+returns-then-fine c = marked-fine _ _ _ c.bit.ensures c.without.ensures c.if-fine.true
 
 pub returns : goal.returns
-returns c = marked-wrong _ _ _ c.requires c.if-fine.false
+returns c = marked-wrong _ _ _ c.bit-2.ensures c.if-fine.false

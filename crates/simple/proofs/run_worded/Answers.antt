@@ -1,19 +1,19 @@
 use borrow.Author.Rules.{rules}
 use native.Mathlib.Omega.{arith}
 use Rattle.image.proofs.Laid.{laid}
-use Rattle.expressions.proofs.{Ways.located, Numbers.whole}
-use Rattle.told.proofs.{Coded.told-by, Kept.slots_length}
+use Rattle.expressions.proofs.Ways.{located}
+use Rattle.told.proofs.Coded.{told-by}
 use Rattle.simple.proofs.{Late.act-stops, Acts.worded-told}
 use Rattle.simple.proofs.run_worded.Goals as goal
 
-pub trailer-i-requires : goal.trailer-i-requires
-trailer-i-requires c =
-    let p = laid (located c.requires.0.ready) in rw (whole c.args.image.now) (omega (arith, p.long))
+pub trailer-requires : goal.trailer-requires
+trailer-requires c =
+    let p = laid (located c.requires.ready) in omega (arith, p.long)
 
 pub read_on-q-requires : goal.read_on-q-requires
 read_on-q-requires c =
-    let h = c.requires.0 in
-    rw (whole c.args.image.now) (record { ready = h.ready; trailer = rw (whole c.args.image.now) at c.trailer-i.ensures; kind = h.kind; code = h.code; room = h.room })
+    let h = c.requires in
+    record { ready = h.ready; trailer = c.trailer.ensures; kind = h.kind; code = h.code; room = h.room }
 
 pub told-requires : goal.told-requires
 told-requires c = record { late = act-stops _ _ _ _ _ c.read_on-q.ensures }
@@ -22,8 +22,7 @@ pub returns : goal.returns
 returns c =
     record {
       told = told-by c.told.ensures;
-      result = worded-told c.args.image.now c.args.r c.args.script.now.now c.told.result c.args.run.now c.put.new.run c.args.store.now c.read_on-q.new.store c.args.values.now c.read_on-q.new.values c.told.ensures.outcome c.put.ensures.run c.taken-now.ensures (rw (whole c.args.image.now) at c.read_on-q.ensures);
-      run = slots_length c.put.ensures;
+      result = worded-told c.args.image.now c.args.r c.args.script.now.now c.read_on-q.result c.told.result c.args.run.now c.args.store.now c.read_on-q.new.store c.args.values.now c.read_on-q.new.values c.told.ensures.outcome c.read_on-q.ensures;
       store = search rules;
       values = search rules;
     }

@@ -1,32 +1,27 @@
--- `judged`: the invariant is that the states below s pass. Assumes nothing.
+-- `judged` meets its contract. Assumes nothing.
+use Rattle.std.proofs.Common.{rules, tests, ℕ, ◌<◌}
 use native.Mathlib.Omega.{arith}
-use mathlib.Core.Path.{sym, ◌∙◌}
-use Rattle.speech.proofs.States.{begun, state-of, in-u16, in-ways, speaks-well, passed, refused, accepted}
+use Rattle.std.proofs.lemmas.Iterator.{serves_from_Range}
+use Rattle.model.specs.Image.{tables_of, state_count}
+use Rattle.model.specs.Decode.{act}
+use Rattle.model.specs.Speech.{well_spoken}
+use Rattle.model.proofs.Found.{found, found-refused, none-accepted}
+use Rattle.image.proofs.Laid.{states-count}
+use Rattle.speech.specs.Verdict.{speech_verdict}
 use Rattle.speech.proofs.judged.Goals as goal
 
-pub state_count-n-requires : goal.state_count-n-requires
-state_count-n-requires c = c.requires.lent.rooted.formed.located
+pub find-requires-clause-callable : goal.find-requires-clause-callable
+find-requires-clause-callable c =
+    serves_from_Range (λ s q k. search (rules, tests)) (λ s low high. let h : s < state_count c.args.x.now.trailer = omega (arith, states-count c.requires.lent.rooted.formed.located, c.state_count-n.ensures) in search (rules, tests))
 
-pub loop-s-init : goal.loop-s-init
-loop-s-init c = begun c.state_count-n.ensures
+pub returns-in-Some : goal.returns-in-Some
+unfolding speech_verdict
+returns-in-Some c =
+    let p = λ (s : ℕ). well_spoken (tables_of c.args.x.now.image.now) (act (tables_of c.args.x.now.image.now) s) in
+    found-refused p _ _ (found p _ _ _ c.find.ensures.ran (λ r b q k. search (rules, tests)) c.state_count-n.ensures) c.in-Some.is
 
-pub state_row-r-requires : goal.state_row-r-requires
-state_row-r-requires c = state-of c.requires c.loop-s.invariant c.loop-s-test.true
-
-pub ends_right-requires : goal.ends_right-requires
-ends_right-requires c = in-ways c.requires c.loop-s.invariant c.loop-s-test.true c.state_row-r.ensures
-
-pub returns-then-not-ends_right : goal.returns-then-not-ends_right
-returns-then-not-ends_right c = refused c.requires c.loop-s.invariant c.loop-s-test.true (sym (speaks-well c.requires c.loop-s.invariant c.loop-s-test.true c.state_row-r.ensures c.ends_right.ensures) ∙ c.if-not-ends_right.true)
-
-pub overflow_add-s : goal.overflow_add-s
-overflow_add-s c = record { fits = in-u16 c.requires c.loop-s.invariant c.loop-s-test.true }
-
-pub loop-s-smaller : goal.loop-s-smaller
-loop-s-smaller c = omega (arith, c.loop-s-test.true)
-
-pub loop-s-preserved : goal.loop-s-preserved
-loop-s-preserved c = passed c.requires c.loop-s.invariant c.loop-s-test.true (sym (speaks-well c.requires c.loop-s.invariant c.loop-s-test.true c.state_row-r.ensures c.ends_right.ensures) ∙ c.if-not-ends_right.false)
-
-pub returns : goal.returns
-returns c = accepted c.requires c.loop-s.invariant c.loop-s-test.false
+pub returns-in-None : goal.returns-in-None
+unfolding speech_verdict
+returns-in-None c =
+    let p = λ (s : ℕ). well_spoken (tables_of c.args.x.now.image.now) (act (tables_of c.args.x.now.image.now) s) in
+    none-accepted p _ _ (found p _ _ _ c.find.ensures.ran (λ r b q k. search (rules, tests)) c.state_count-n.ensures) c.in-None.is

@@ -1,14 +1,15 @@
 use Rattle.stages.proofs.Stages.{trailer-there, rooted-there, to-ruling, image-stays, image-rules}
+use Rattle.model.proofs.Order.{passed-on}
 use Rattle.stages.proofs.image_verdict.Goals as goal
 
-pub trailer-i-requires : goal.trailer-i-requires
-trailer-i-requires c = trailer-there _ c.tables-v.ensures c.in-Accepted.is
+pub trailer-requires : goal.trailer-requires
+trailer-requires c = trailer-there _ c.tables.ensures c.in_ok-tables.was
 
 pub rules_sized-requires : goal.rules_sized-requires
-rules_sized-requires c = to-ruling (rooted-there _ _ c.trailer-i.ensures c.tables-v.ensures c.in-Accepted.is)
+rules_sized-requires c = to-ruling (rooted-there _ _ c.trailer.ensures c.tables.ensures c.in_ok-tables.was)
 
-pub returns-in-Refused : goal.returns-in-Refused
-returns-in-Refused c = image-stays _ _ c.tables-v.ensures c.in-Refused.is
+pub returns-in_err-tables : goal.returns-in_err-tables
+returns-in_err-tables c = rw (passed-on _ _ c.from_residual.ensures.1, ← c.in_err-tables.was) (image-stays _ _ c.tables.ensures c.in_err-tables.was)
 
-pub returns-in-Accepted : goal.returns-in-Accepted
-returns-in-Accepted c = image-rules _ _ c.tables-v.ensures c.in-Accepted.is c.rules_sized.ensures
+pub returns : goal.returns
+returns c = image-rules _ _ c.tables.ensures c.in_ok-tables.was c.rules_sized.ensures

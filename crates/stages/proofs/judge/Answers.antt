@@ -1,14 +1,15 @@
 use Rattle.stages.proofs.Stages.{trailer-there, rooted-there, to-sized, judge-stays, judge-trees}
+use Rattle.model.proofs.Order.{passed-on}
 use Rattle.stages.proofs.judge.Goals as goal
 
-pub trailer-i-requires : goal.trailer-i-requires
-trailer-i-requires c = trailer-there _ c.tables-v.ensures c.in-Accepted.is
+pub trailer-requires : goal.trailer-requires
+trailer-requires c = trailer-there _ c.tables.ensures c.in_ok-tables.was
 
 pub sized-requires : goal.sized-requires
-sized-requires c = to-sized (rooted-there _ _ c.trailer-i.ensures c.tables-v.ensures c.in-Accepted.is) c.requires
+sized-requires c = to-sized (rooted-there _ _ c.trailer.ensures c.tables.ensures c.in_ok-tables.was) c.requires
 
-pub returns-in-Refused : goal.returns-in-Refused
-returns-in-Refused c = judge-stays _ _ _ _ c.tables-v.ensures c.in-Refused.is
+pub returns-in_err-tables : goal.returns-in_err-tables
+returns-in_err-tables c = rw (passed-on _ _ c.from_residual.ensures.1, ← c.in_err-tables.was) (judge-stays _ _ _ _ c.tables.ensures c.in_err-tables.was)
 
-pub returns-in-Accepted : goal.returns-in-Accepted
-returns-in-Accepted c = judge-trees _ _ _ c.tables-v.ensures c.in-Accepted.is c.sized.ensures
+pub returns : goal.returns
+returns c = judge-trees _ _ _ c.tables.ensures c.in_ok-tables.was c.sized.ensures

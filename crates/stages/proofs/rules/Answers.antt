@@ -1,9 +1,10 @@
 use mathlib.Core.{Path.sym, Path.◌∙◌}
 use Rattle.stages.proofs.Stages.{rules-stays, rules-binding}
+use Rattle.model.proofs.Order.{passed-on}
 use Rattle.stages.proofs.rules.Goals as goal
 
-pub returns-in-Refused : goal.returns-in-Refused
-returns-in-Refused c = record { verdict = rules-stays _ _ _ c.typing_verdict-v.ensures c.in-Refused.is; filled = c.fill.ensures }
+pub returns-in_err-typing_verdict : goal.returns-in_err-typing_verdict
+returns-in_err-typing_verdict c = rw (passed-on _ _ c.from_residual.ensures.1, ← c.in_err-typing_verdict.was) (record { verdict = rules-stays _ _ _ c.typing_verdict.ensures c.in_err-typing_verdict.was; filled = c.fill.ensures })
 
-pub returns-in-Accepted : goal.returns-in-Accepted
-returns-in-Accepted c = record { verdict = rules-binding _ _ (sym c.typing_verdict-v.ensures ∙ c.in-Accepted.is) c.binding_verdict.ensures; filled = c.fill.ensures }
+pub returns : goal.returns
+returns c = record { verdict = rules-binding _ _ (sym c.typing_verdict.ensures ∙ c.in_ok-typing_verdict.was) c.binding_verdict.ensures; filled = c.fill.ensures }

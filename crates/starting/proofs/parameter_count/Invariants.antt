@@ -1,11 +1,8 @@
 -- `starting::parameter_count` meets its contract. Assumes nothing.
-use Prim.Native.Nat.{◌≤◌, ◌-◌}
+use Prim.Native.Nat.{◌≤◌}
 use Rattle.model.specs.Image.{tables_of}
 use Rattle.starting.proofs.Filling.{Counted}
 use Rattle.starting.proofs.parameter_count.Given as goal
 
 abbrev pub invariant-loop-v : goal.invariant-loop-v
-invariant-loop-v l = (l.v ≤ l.count) × Counted (tables_of l.image).variables l.v l.n
-
-abbrev pub decreases-loop-v : goal.decreases-loop-v
-decreases-loop-v l = l.count - l.v
+invariant-loop-v l = (l.v ≤ l.count) × Counted (tables_of l.x.image.now).variables l.v l.n

@@ -1,22 +1,28 @@
 -- `starting::parameter_verdict` meets its contract. Assumes nothing.
 use native.Mathlib.Omega.{arith}
-use mathlib.Core.Path.{sym, ◌∙◌}
-use Rattle.model.proofs.Order.{lowest-full, lowest-pass}
+use Rattle.std.proofs.Common.{rules, tests}
+use Rattle.std.proofs.lemmas.Iterator.{serves_from_Range}
+use Rattle.model.specs.Image.{tables_of}
+use Rattle.model.proofs.Found.{found, found-refused, none-accepted}
 use Rattle.stages.proofs.Cleared.{located}
-use Rattle.starting.proofs.Judging.{parameters-passed, parameters-refused}
+use Rattle.starting.specs.Starting.{right_at, parameters_verdict, SlotOf}
 use Rattle.starting.proofs.parameter_verdict.Goals as goal
 
 pub variable_count-count-requires : goal.variable_count-count-requires
 variable_count-count-requires c = located c.requires.cleared
 
-pub loop-v-init : goal.loop-v-init
-loop-v-init c = (omega arith, lowest-full _ 0 (λ k h. absurd (omega arith)))
+pub find-requires-clause-callable : goal.find-requires-clause-callable
+find-requires-clause-callable c =
+    serves_from_Range (λ x q k. search (rules, tests)) (λ x low high. let h : SlotOf c.args.x.now.image.now c.args.x.now.trailer c.args.work.now x = record { slotted = c.requires; inside = omega (arith, c.variable_count-count.ensures) } in search rules)
 
-pub returns-then-not-right : goal.returns-then-not-right
-returns-then-not-right c = parameters-refused _ _ c.loop-v.invariant.1 (omega arith) c.right.ensures c.if-not-right.true
+pub returns-in-Some : goal.returns-in-Some
+unfolding parameters_verdict
+returns-in-Some c =
+    let p = right_at (tables_of c.args.x.now.image.now) c.args.work.now in
+    found-refused p _ _ (found p _ _ _ c.find.ensures.ran (λ x b q k. search (rules, tests)) c.variable_count-count.ensures) c.in-Some.is
 
-pub loop-v-preserved : goal.loop-v-preserved
-loop-v-preserved c = (omega arith, lowest-pass _ _ c.loop-v.invariant.1 (sym c.right.ensures ∙ c.if-not-right.false))
-
-pub returns : goal.returns
-returns c = parameters-passed _ _ (omega arith) (omega arith) c.loop-v.invariant.1
+pub returns-in-None : goal.returns-in-None
+unfolding parameters_verdict
+returns-in-None c =
+    let p = right_at (tables_of c.args.x.now.image.now) c.args.work.now in
+    none-accepted p _ _ (found p _ _ _ c.find.ensures.ran (λ x b q k. search (rules, tests)) c.variable_count-count.ensures) c.in-None.is

@@ -1,5 +1,3 @@
-use native.Mathlib.Omega.{arith}
-use Rattle.told.proofs.Kept.{slots_length}
 use Rattle.stepping.proofs.Trying.{state-there, runs-there, tried}
 use Rattle.stepping.proofs.try_step.Goals as goal
 
@@ -7,13 +5,12 @@ pub state_row-r-requires : goal.state_row-r-requires
 state_row-r-requires c = state-there c.requires
 
 pub run_action-n-requires : goal.run_action-n-requires
-run_action-n-requires c =
-    (runs-there c.requires c.state_row-r.ensures, omega (arith, slots_length c.put.ensures))
+run_action-n-requires c = runs-there c.requires c.state_row-r.ensures
 
 pub returns : goal.returns
 returns c =
     record {
-      result = tried c.requires _ _ _ c.state_row-r.ensures c.outcome.ensures c.taken.ensures c.put.ensures.run c.run_action-n.ensures.result;
+      result = tried c.requires _ _ _ _ c.state_row-r.ensures c.outcome.ensures c.run_action-n.ensures.result;
       store = c.run_action-n.ensures.store;
       values = c.run_action-n.ensures.values;
     }

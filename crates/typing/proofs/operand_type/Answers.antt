@@ -1,16 +1,13 @@
--- `typing::operand_type` meets its contract: the table's rule is one test at each of its entries.
--- Assumes nothing.
-use mathlib.Core.{Path.refl, List.List, List.[], List.◌∷◌}
-use Prim.Native.Nat.{ℕ}
-use Rattle.model.specs.Image.{none, bool, int}
-use Rattle.model.specs.Rows.{codes, lookup, shape_of}
-use Rattle.typing.specs.Rules.{operand_of}
-use Rattle.typing.proofs.Table.{by_code}
+-- `typing::operand_type` meets its contract. Assumes nothing.
+use native.Mathlib.Omega.{arith}
+use Rattle.typing.proofs.Operators.{logic-operands, equal-operands, int-operands}
 use Rattle.typing.proofs.operand_type.Goals as goal
 
-abbrev table : List ℕ
-table = bool ∷ bool ∷ bool ∷ int ∷ int ∷ int ∷ int ∷ int ∷ int ∷ none ∷ int ∷ int ∷ []
+pub returns-in-16-to-18 : goal.returns-in-16-to-18
+returns-in-16-to-18 c = logic-operands c.requires (omega arith)
 
-pub returns : goal.returns
-unfolding operand_of shape_of lookup codes
-returns c = by_code operand_of table tt refl c.args.code c.requires
+pub returns-in-25 : goal.returns-in-25
+returns-in-25 c = equal-operands c.requires c.in-25.is
+
+pub returns-in_default-2 : goal.returns-in_default-2
+returns-in_default-2 c = int-operands c.requires (omega arith) (λ e. omega arith)

@@ -1,16 +1,13 @@
--- `typing::result_type` meets its contract: the table's rule is one test at each of its entries.
--- Assumes nothing.
-use mathlib.Core.{Path.refl, List.List, List.[], List.◌∷◌}
-use Prim.Native.Nat.{ℕ}
-use Rattle.model.specs.Image.{bool, int}
-use Rattle.model.specs.Rows.{codes, lookup, shape_of}
-use Rattle.typing.specs.Rules.{result_of}
-use Rattle.typing.proofs.Table.{by_code}
+-- `typing::result_type` meets its contract. Assumes nothing.
+use native.Mathlib.Omega.{arith}
+use Rattle.typing.proofs.Operators.{logic-result, int-result, comparison-result}
 use Rattle.typing.proofs.result_type.Goals as goal
 
-abbrev table : List ℕ
-table = bool ∷ bool ∷ bool ∷ int ∷ int ∷ int ∷ int ∷ int ∷ int ∷ bool ∷ bool ∷ bool ∷ []
+pub returns-in-19-to-24 : goal.returns-in-19-to-24
+returns-in-19-to-24 c = int-result c.requires (omega arith) (omega arith)
 
-pub returns : goal.returns
-unfolding result_of shape_of lookup codes
-returns c = by_code result_of table tt refl c.args.code c.requires
+pub returns-in_default : goal.returns-in_default
+returns-in_default c = logic-result c.requires (omega arith)
+
+pub returns-in_default-2 : goal.returns-in_default-2
+returns-in_default-2 c = comparison-result c.requires (omega arith) (omega arith)

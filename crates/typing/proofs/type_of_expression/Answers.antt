@@ -9,25 +9,25 @@ fields-w-requires c = known-row refl c.requires
 
 pub variable_type-requires : goal.variable_type-requires
 variable_type-requires c =
-    let here : Here c.args.image.now c.args.i c.args.r c.fields-w.result = record { formed = c.requires.formed; fields = c.fields-w.ensures } in
+    let here : Here c.args.x.now.image.now c.args.x.now.trailer c.args.r c.fields-w.result = record { formed = c.requires.formed; fields = c.fields-w.ensures } in
     variable-asks (here) c.in-1.is
 
 pub result_type-requires : goal.result_type-requires
 result_type-requires c =
-    let here : Here c.args.image.now c.args.i c.args.r c.fields-w.result = record { formed = c.requires.formed; fields = c.fields-w.ensures } in
+    let here : Here c.args.x.now.image.now c.args.x.now.trailer c.args.r c.fields-w.result = record { formed = c.requires.formed; fields = c.fields-w.ensures } in
     operator-asks (here) c.requires.kind c.in_default.in_default-own.rest.0.1 c.in_default.in_default-own.rest.1
 
 pub returns-in-1 : goal.returns-in-1
 returns-in-1 c =
-    let here : Here c.args.image.now c.args.i c.args.r c.fields-w.result = record { formed = c.requires.formed; fields = c.fields-w.ensures } in
+    let here : Here c.args.x.now.image.now c.args.x.now.trailer c.args.r c.fields-w.result = record { formed = c.requires.formed; fields = c.fields-w.ensures } in
     c.variable_type.ensures ∙ variable-type (here) c.in-1.is
 
 pub returns-in-2 : goal.returns-in-2
 returns-in-2 c =
-    let here : Here c.args.image.now c.args.i c.args.r c.fields-w.result = record { formed = c.requires.formed; fields = c.fields-w.ensures } in
+    let here : Here c.args.x.now.image.now c.args.x.now.trailer c.args.r c.fields-w.result = record { formed = c.requires.formed; fields = c.fields-w.ensures } in
     constant-type (here) c.in-2.is
 
 pub returns-in_default : goal.returns-in_default
 returns-in_default c =
-    let here : Here c.args.image.now c.args.i c.args.r c.fields-w.result = record { formed = c.requires.formed; fields = c.fields-w.ensures } in
+    let here : Here c.args.x.now.image.now c.args.x.now.trailer c.args.r c.fields-w.result = record { formed = c.requires.formed; fields = c.fields-w.ensures } in
     c.result_type.ensures ∙ operator-type (here) c.requires.kind c.in_default.in_default-own.rest.0.1 c.in_default.in_default-own.rest.1

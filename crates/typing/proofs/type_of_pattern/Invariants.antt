@@ -7,7 +7,7 @@ use Rattle.typing.specs.Rules.{pattern_type, OfKind}
 use Rattle.typing.proofs.type_of_pattern.Given as goal
 
 abbrev pub invariant-loop-at : goal.invariant-loop-at
-invariant-loop-at l = OfKind l.image l.i pattern l.at × (pattern_type (tables_of l.image) l.at ≡ pattern_type (tables_of l.image) l.r)
+invariant-loop-at l = OfKind l.x.image.now l.x.trailer pattern l.at × (pattern_type (tables_of l.x.image.now) l.at ≡ pattern_type (tables_of l.x.image.now) l.r)
 
 abbrev pub decreases-loop-at : goal.decreases-loop-at
 decreases-loop-at l = l.at

@@ -1,31 +1,26 @@
--- `typing::typing_verdict` meets its contract: the rows before r pass. The measure is the number of rows left.
--- Assumes nothing.
-use mathlib.Core.Path.{sym, ◌∙◌}
+-- `typing::typing_verdict` meets its contract. Assumes nothing.
+use Rattle.std.proofs.Common.{rules, tests}
 use native.Mathlib.Omega.{arith}
+use Rattle.std.proofs.lemmas.Iterator.{serves_from_Range}
+use Rattle.model.specs.Image.{tables_of}
+use Rattle.model.specs.Typing.{typed}
+use Rattle.model.proofs.Found.{found, found-refused, none-accepted}
 use Rattle.image.proofs.Laid.{rows-count}
-use Rattle.typing.proofs.Verdict.{none_yet, one_more, refused-at, accepted}
+use Rattle.typing.specs.Rules.{typing_verdict, RootedRow}
 use Rattle.typing.proofs.typing_verdict.Goals as goal
 
-pub row_count-n-requires : goal.row_count-n-requires
-row_count-n-requires c = c.requires.formed.located
+pub find-requires-clause-callable : goal.find-requires-clause-callable
+find-requires-clause-callable c =
+    serves_from_Range (λ x q k. search (rules, tests)) (λ x low high. let h : RootedRow c.args.x.now.image.now c.args.x.now.trailer x = record { rooted = c.requires; inside = omega (arith, rows-count c.requires.formed.located) } in search rules)
 
-pub loop-r-init : goal.loop-r-init
-loop-r-init c = none_yet c.row_count-n.ensures
+pub returns-in-Some : goal.returns-in-Some
+unfolding typing_verdict
+returns-in-Some c =
+    let p = typed (tables_of c.args.x.now.image.now) in
+    found-refused p _ _ (found p _ _ _ c.find.ensures.ran (λ x b q k. search (rules, tests)) c.row_count-n.ensures) c.in-Some.is
 
-pub typed-requires : goal.typed-requires
-typed-requires c = record { rooted = c.requires; inside = omega (arith, c.loop-r.invariant.count, rows-count c.requires.formed.located) }
-
-pub returns-then-not-typed : goal.returns-then-not-typed
-returns-then-not-typed c = refused-at c.loop-r.invariant c.loop-r-test.true (sym c.typed.ensures ∙ c.if-not-typed.true)
-
-pub overflow_add-r : goal.overflow_add-r
-overflow_add-r c = omega arith
-
-pub loop-r-smaller : goal.loop-r-smaller
-loop-r-smaller c = omega arith
-
-pub loop-r-preserved : goal.loop-r-preserved
-loop-r-preserved c = one_more c.loop-r.invariant c.loop-r-test.true (sym c.typed.ensures ∙ c.if-not-typed.false)
-
-pub returns : goal.returns
-returns c = accepted c.loop-r.invariant c.loop-r-test.false
+pub returns-in-None : goal.returns-in-None
+unfolding typing_verdict
+returns-in-None c =
+    let p = typed (tables_of c.args.x.now.image.now) in
+    none-accepted p _ _ (found p _ _ _ c.find.ensures.ran (λ x b q k. search (rules, tests)) c.row_count-n.ensures) c.in-None.is

@@ -5,6 +5,6 @@ pub returns-then-graph : goal.returns-then-graph
 unfolding line_end
 returns-then-graph c = rw c.if-graph.true c.emit.ensures
 
-pub returns : goal.returns
+pub returns-else-graph : goal.returns-else-graph
 unfolding line_end
-returns c = rw c.if-graph.false c.emit_byte.ensures
+returns-else-graph c = rw c.if-graph.false c.emit_byte.ensures

@@ -1,16 +1,15 @@
-use borrow.Author.Tests.{ne_eqb}
+use Rattle.text.proofs.Writing.{written-none}
 use Rattle.notation.specs.Texts.{lead_text}
-use Rattle.text.proofs.Pages.{emit-none}
 use Rattle.notation.proofs.marks.put_lead.Goals as goal
 
-pub returns-then-lead-eq0 : goal.returns-then-lead-eq0
+pub returns-in-Nothing : goal.returns-in-Nothing
 unfolding lead_text
-returns-then-lead-eq0 c = rw c.if-lead-eq0.true (emit-none _)
+returns-in-Nothing c = rw c.in-Nothing.is (written-none _)
 
-pub returns-then-lead-eq1 : goal.returns-then-lead-eq1
+pub returns-in-Comma : goal.returns-in-Comma
 unfolding lead_text
-returns-then-lead-eq1 c = rw c.if-lead-eq1.true c.emit.ensures
+returns-in-Comma c = rw c.in-Comma.is c.emit.ensures
 
-pub returns : goal.returns
+pub returns-in-Where : goal.returns-in-Where
 unfolding lead_text
-returns c = rw (lead_text, ne_eqb c.args.lead 0 c.if-lead-eq0.false, ne_eqb c.args.lead 1 c.if-lead-eq1.false) c.emit-2.ensures
+returns-in-Where c = rw c.in-Where.is c.emit-in-Where.ensures

@@ -6,6 +6,6 @@ pub returns-then-row-place : goal.returns-then-row-place
 unfolding margin
 returns-then-row-place c = rw (margin, eq-eqb c.args.row c.args.place c.if-row-place.true) c.emit.ensures
 
-pub returns : goal.returns
+pub returns-else-row-place : goal.returns-else-row-place
 unfolding margin
-returns c = rw (margin, ne_eqb c.args.row c.args.place c.if-row-place.false) c.emit-2.ensures
+returns-else-row-place c = rw (margin, ne_eqb c.args.row c.args.place c.if-row-place.false) c.emit-else-row-place.ensures

@@ -1,5 +1,5 @@
 use borrow.Author.Tests.{ne_eqb}
-use Rattle.text.proofs.Pages.{emit-none}
+use Rattle.text.proofs.Writing.{written-none}
 use Rattle.notation.specs.Texts.{plain_text, text_by}
 use Rattle.notation.proofs.marks.put_plain.Goals as goal
 
@@ -61,39 +61,39 @@ returns-in-85 c = rw c.in-85.is c.emit_byte.ensures
 
 pub returns-in-65 : goal.returns-in-65
 unfolding plain_text text_by
-returns-in-65 c = rw c.in-65.is (emit-none _)
+returns-in-65 c = rw c.in-65.is (written-none _)
 
 pub returns-in-66 : goal.returns-in-66
 unfolding plain_text text_by
-returns-in-66 c = rw c.in-66.is (emit-none _)
+returns-in-66 c = rw c.in-66.is (written-none _)
 
 pub returns-in-67 : goal.returns-in-67
 unfolding plain_text text_by
-returns-in-67 c = rw c.in-67.is (emit-none _)
+returns-in-67 c = rw c.in-67.is (written-none _)
 
 pub returns-in-68 : goal.returns-in-68
 unfolding plain_text text_by
-returns-in-68 c = rw c.in-68.is (emit-none _)
+returns-in-68 c = rw c.in-68.is (written-none _)
 
 pub returns-in-70 : goal.returns-in-70
 unfolding plain_text text_by
-returns-in-70 c = rw c.in-70.is (emit-none _)
+returns-in-70 c = rw c.in-70.is (written-none _)
 
 pub returns-in-78 : goal.returns-in-78
 unfolding plain_text text_by
-returns-in-78 c = rw c.in-78.is (emit-none _)
+returns-in-78 c = rw c.in-78.is (written-none _)
 
 pub returns-in-81 : goal.returns-in-81
 unfolding plain_text text_by
-returns-in-81 c = rw c.in-81.is (emit-none _)
+returns-in-81 c = rw c.in-81.is (written-none _)
 
 pub returns-in-82 : goal.returns-in-82
 unfolding plain_text text_by
-returns-in-82 c = rw c.in-82.is (emit-none _)
+returns-in-82 c = rw c.in-82.is (written-none _)
 
 pub returns-in-87 : goal.returns-in-87
 unfolding plain_text text_by
-returns-in-87 c = rw c.in-87.is (emit-none _)
+returns-in-87 c = rw c.in-87.is (written-none _)
 
 pub returns-in_default : goal.returns-in_default
 unfolding plain_text text_by

@@ -1,35 +1,34 @@
-use borrow.Author.Tests.{ne_eqb}
 use Rattle.notation.specs.Whole.{filling_of, count_of}
 use Rattle.notation.proofs.tables.filling_of.Goals as goal
 
 pub type_filling-requires : goal.type_filling-requires
 unfolding count_of
-type_filling-requires c = record { located = c.requires.located; inside = rw c.in-0.is at c.requires.inside }
+type_filling-requires c = record { located = c.requires.located; inside = rw c.in-Types.is at c.requires.inside }
 
 pub variable_filling-requires : goal.variable_filling-requires
 unfolding count_of
-variable_filling-requires c = record { located = c.requires.located; inside = rw c.in-1.is at c.requires.inside }
+variable_filling-requires c = record { located = c.requires.located; inside = rw c.in-Variables.is at c.requires.inside }
 
 pub row_filling-requires : goal.row_filling-requires
 unfolding count_of
-row_filling-requires c = record { located = c.requires.located; inside = rw c.in-2.is at c.requires.inside }
+row_filling-requires c = record { located = c.requires.located; inside = rw c.in-Rows.is at c.requires.inside }
 
 pub state_filling-requires : goal.state_filling-requires
 unfolding count_of
-state_filling-requires c = record { located = c.requires.located; inside = rw (count_of, ne_eqb c.args.k 0 c.in_default.in_default-own.rest.0.0.1, ne_eqb c.args.k 1 c.in_default.in_default-own.rest.0.1, ne_eqb c.args.k 2 c.in_default.in_default-own.rest.1) at c.requires.inside }
+state_filling-requires c = record { located = c.requires.located; inside = rw c.in-States.is at c.requires.inside }
 
-pub returns-in-0 : goal.returns-in-0
+pub returns-in-Types : goal.returns-in-Types
 unfolding filling_of
-returns-in-0 c = rw c.in-0.is c.type_filling.ensures
+returns-in-Types c = rw c.in-Types.is c.type_filling.ensures
 
-pub returns-in-1 : goal.returns-in-1
+pub returns-in-Variables : goal.returns-in-Variables
 unfolding filling_of
-returns-in-1 c = rw c.in-1.is c.variable_filling.ensures
+returns-in-Variables c = rw c.in-Variables.is c.variable_filling.ensures
 
-pub returns-in-2 : goal.returns-in-2
+pub returns-in-Rows : goal.returns-in-Rows
 unfolding filling_of
-returns-in-2 c = rw c.in-2.is c.row_filling.ensures
+returns-in-Rows c = rw c.in-Rows.is c.row_filling.ensures
 
-pub returns-in_default : goal.returns-in_default
+pub returns-in-States : goal.returns-in-States
 unfolding filling_of
-returns-in_default c = rw (filling_of, ne_eqb c.args.k 0 c.in_default.in_default-own.rest.0.0.1, ne_eqb c.args.k 1 c.in_default.in_default-own.rest.0.1, ne_eqb c.args.k 2 c.in_default.in_default-own.rest.1) c.state_filling.ensures
+returns-in-States c = rw c.in-States.is c.state_filling.ensures

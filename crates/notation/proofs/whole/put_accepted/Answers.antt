@@ -1,6 +1,6 @@
 use native.Mathlib.Omega.{arith}
 use Rattle.image.proofs.Laid.{laid}
-use Rattle.text.proofs.Pages.{emit-then}
+use Rattle.text.proofs.Writing.{written-then}
 use Rattle.notation.specs.Whole.{accepted_text}
 use Rattle.notation.proofs.whole.put_accepted.Goals as goal
 
@@ -15,4 +15,4 @@ put_sets-requires c = let l = laid c.requires.0 in (omega (arith, l.variables_mo
 
 pub returns : goal.returns
 unfolding accepted_text
-returns c = emit-then c.put_said-a.ensures c.put_sets.ensures
+returns c = written-then c.put_said.ensures c.put_sets.ensures

@@ -1,7 +1,7 @@
-use Rattle.text.proofs.Pages.{emit-then}
+use Rattle.text.proofs.Writing.{written-then}
 use Rattle.notation.specs.Whole.{raw_text}
 use Rattle.notation.proofs.whole.put_raw.Goals as goal
 
 pub returns : goal.returns
 unfolding raw_text
-returns c = emit-then (emit-then (emit-then c.put_tables-a.ensures c.put_roots-b.ensures) c.put_said-c.ensures) c.put_table.ensures
+returns c = written-then (written-then (written-then c.put_tables.ensures c.put_roots.ensures) c.put_said.ensures) c.put_table.ensures

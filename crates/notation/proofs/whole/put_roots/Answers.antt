@@ -1,6 +1,6 @@
 use native.Mathlib.Omega.{arith}
 use Rattle.image.proofs.Laid.{laid}
-use Rattle.text.proofs.Pages.{emit-then}
+use Rattle.text.proofs.Writing.{written-then}
 use Rattle.notation.specs.Whole.{roots_text}
 use Rattle.notation.proofs.whole.put_roots.Goals as goal
 
@@ -9,4 +9,4 @@ overflow_sub-states c = let l = laid c.requires in omega (arith, l.rows)
 
 pub returns : goal.returns
 unfolding roots_text
-returns c = emit-then (emit-then c.put_said-a.ensures c.put_table-b.ensures) c.put_said.ensures
+returns c = written-then (written-then c.put_said.ensures c.put_table.ensures) c.put_said-2.ensures

@@ -7,30 +7,30 @@ pub returns-then-n-lt3 : goal.returns-then-n-lt3
 unfolding shown_text
 returns-then-n-lt3 c = rw (shown_text, lt-ltb c.args.n 3 (search rules)) c.put_length.ensures
 
-pub trailer-i-requires : goal.trailer-i-requires
-trailer-i-requires c = c.requires.trailed (search rules)
+pub trailer-requires : goal.trailer-requires
+trailer-requires c = c.requires.trailed (search rules)
 
 pub returns-then-n-lt4 : goal.returns-then-n-lt4
 unfolding shown_text
-returns-then-n-lt4 c = rw (shown_text, le-ltb c.args.n 3 (search rules), lt-ltb c.args.n 4 (search rules), ← c.trailer-i.ensures) c.put_trailer.ensures
+returns-then-n-lt4 c = rw (shown_text, le-ltb c.args.n 3 (search rules), lt-ltb c.args.n 4 (search rules), ← c.trailer.ensures) c.put_trailer.ensures
 
 pub put_tables-requires : goal.put_tables-requires
-put_tables-requires c = rw c.trailer-i.ensures (c.requires.located (search rules))
+put_tables-requires c = rw c.trailer.ensures (c.requires.located (search rules))
 
 pub returns-then-n-lt5 : goal.returns-then-n-lt5
 unfolding shown_text
-returns-then-n-lt5 c = rw (shown_text, le-ltb c.args.n 3 (search rules), le-ltb c.args.n 4 (search rules), lt-ltb c.args.n 5 (search rules), ← c.trailer-i.ensures) c.put_tables.ensures
+returns-then-n-lt5 c = rw (shown_text, le-ltb c.args.n 3 (search rules), le-ltb c.args.n 4 (search rules), lt-ltb c.args.n 5 (search rules), ← c.trailer.ensures) c.put_tables.ensures
 
 pub put_raw-requires : goal.put_raw-requires
-put_raw-requires c = rw c.trailer-i.ensures (c.requires.located (search rules))
+put_raw-requires c = rw c.trailer.ensures (c.requires.located (search rules))
 
 pub returns-then-n-lt8 : goal.returns-then-n-lt8
 unfolding shown_text
-returns-then-n-lt8 c = rw (shown_text, le-ltb c.args.n 3 (search rules), le-ltb c.args.n 4 (search rules), le-ltb c.args.n 5 (search rules), lt-ltb c.args.n 8 (search rules), ← c.trailer-i.ensures) c.put_raw.ensures
+returns-then-n-lt8 c = rw (shown_text, le-ltb c.args.n 3 (search rules), le-ltb c.args.n 4 (search rules), le-ltb c.args.n 5 (search rules), lt-ltb c.args.n 8 (search rules), ← c.trailer.ensures) c.put_raw.ensures
 
 pub put_listing-requires : goal.put_listing-requires
-put_listing-requires c = rw c.trailer-i.ensures (c.requires.located (search rules))
+put_listing-requires c = rw c.trailer.ensures (c.requires.located (search rules))
 
-pub returns : goal.returns
+pub returns-else-n-lt8 : goal.returns-else-n-lt8
 unfolding shown_text
-returns c = rw (shown_text, le-ltb c.args.n 3 (search rules), le-ltb c.args.n 4 (search rules), le-ltb c.args.n 5 (search rules), le-ltb c.args.n 8 (search rules), ← c.trailer-i.ensures) c.put_listing.ensures
+returns-else-n-lt8 c = rw (shown_text, le-ltb c.args.n 3 (search rules), le-ltb c.args.n 4 (search rules), le-ltb c.args.n 5 (search rules), le-ltb c.args.n 8 (search rules), ← c.trailer.ensures) c.put_listing.ensures

@@ -1,16 +1,24 @@
 -- `rows::fits::list_fits` meets its contract. Assumes nothing.
-use mathlib.Core.Path.{refl, ◌∙◌}
-use Rattle.rows.proofs.Fields.{list_over, list-long, list_on}
+use mathlib.Core.Path.{ap, ◌∙◌}
+use Prim.Native.Nat.{◌-◌}
+use native.Mathlib.Omega.{arith}
+use Rattle.model.specs.Image.{tables_of}
+use Rattle.model.specs.Rows.{list_fits}
+use Rattle.rows.proofs.Fields.{list_over, list_end, list_on}
 use Rattle.rows.proofs.fits.list_fits.Goals as goal
 
-pub loop-at-init : goal.loop-at-init
-loop-at-init c = refl
+pub loop-init : goal.loop-init
+loop-init c = ap (λ k. list_fits (tables_of c.args.x.now.image.now) k c.args.n) (omega arith)
 
-pub returns-then-left-eq0 : goal.returns-then-left-eq0
-returns-then-left-eq0 c = list-long _ _ _ c.if-left-eq0.true c.loop-at-test.true ∙ c.loop-at.invariant
+pub returns-then-at : goal.returns-then-at
+returns-then-at c = list_over _ _ _ c.if-at.true ∙ c.loop.invariant
 
-pub loop-at-preserved : goal.loop-at-preserved
-loop-at-preserved c = list_on _ _ _ _ c.if-left-eq0.false c.loop-at-test.true c.next_of-at.ensures ∙ c.loop-at.invariant
+pub loop-preserved : goal.loop-preserved
+loop-preserved c =
+    let left = c.args.most - c.loop.counter in
+    ap (λ k. list_fits (tables_of c.args.x.now.image.now) k c.next_of-at.result) (omega (arith, c.loop-test.true))
+    ∙ list_on _ _ left _ (λ e. omega (arith, c.loop-test.true)) c.if-at.false c.next_of-at.ensures
+    ∙ c.loop.invariant
 
 pub returns : goal.returns
-returns c = list_over _ _ _ c.loop-at-test.false ∙ c.loop-at.invariant
+returns c = list_end _ _ _ (omega arith) ∙ c.loop.invariant

@@ -1,5 +1,4 @@
 -- `rows::once::count_rows` meets its contract. Assumes nothing.
-use Prim.Native.Nat.{◌-◌}
 use lib.ListN.{take}
 use Rattle.model.specs.Image.{tables_of}
 use Rattle.model.specs.Rows.{named_by_rows}
@@ -7,7 +6,4 @@ use Rattle.rows.specs.Counts.{Counted}
 use Rattle.rows.proofs.once.count_rows.Given as goal
 
 abbrev pub invariant-loop-r : goal.invariant-loop-r
-invariant-loop-r l = Counted l.initial.counts l.counts (named_by_rows (take l.r (tables_of l.image).rows))
-
-abbrev pub decreases-loop-r : goal.decreases-loop-r
-decreases-loop-r l = l.n - l.r
+invariant-loop-r l = Counted l.initial.counts l.counts (named_by_rows (take l.r (tables_of l.x.image.now).rows))

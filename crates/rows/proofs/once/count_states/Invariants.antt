@@ -1,12 +1,8 @@
 -- `rows::once::count_states` meets its contract. Assumes nothing.
-use Prim.Native.Nat.{◌-◌}
 use lib.ListN.{take}
 use Rattle.model.specs.Image.{tables_of}
 use Rattle.rows.specs.Counts.{Counted}
 use Rattle.rows.proofs.once.count_states.Given as goal
 
 abbrev pub invariant-loop-q : goal.invariant-loop-q
-invariant-loop-q l = Counted l.initial.counts l.counts (take l.q (tables_of l.image).states)
-
-abbrev pub decreases-loop-q : goal.decreases-loop-q
-decreases-loop-q l = l.n - l.q
+invariant-loop-q l = Counted l.initial.counts l.counts (take l.q (tables_of l.x.image.now).states)

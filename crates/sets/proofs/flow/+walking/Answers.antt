@@ -4,8 +4,8 @@ use mathlib.Core.Path.{sym, ◌∙◌}
 use native.Mathlib.Omega.{arith}
 use Rattle.model.specs.Rows.{action, branch, arm}
 use Rattle.sets.proofs.Rows.{row-of-kind}
-use Rattle.sets.proofs.Steps.{do-plain, do-fine, walking-all, first-ready, first-low, second-low, walking_on, walking-last, loop-masks, body-ready, body-low, do-loop, as-jump, as-loop, as_plain, branches-ready, branches-low, do-select, arms-ready, arms-low, case-masks, do-case}
-use Rattle.sets.proofs.Listing.{here-kind, branches-all, branch-ready, branch-low, branch_less, branches-on, branches-last, arms-all, arm-masks, arm-ready, arm_low, arm-less, arms-on, arms_last}
+use Rattle.sets.proofs.Steps.{do-plain, walking-all, first-ready, first-low, second-low, walking_on, walking-last, body-ready, body-low, do-loop, as_plain, branches-ready, branches-low, do-select, arms-ready, arms-low, do-case}
+use Rattle.sets.proofs.Listing.{here-kind, branches-all, branch-ready, branch-low, branch_less, branches-on, branches-last, arms-all, arm-ready, arm_low, arm-less, arms-on, arms_last}
 use Rattle.sets.proofs.flow.+walking.Goals as goal
 use Rattle.sets.proofs.flow.+walking.Goals.{walk_single-in_default-via-then-c-lt59, walk_single-in_default-via-else-c-lt59+else-c-lt61}
 
@@ -27,12 +27,6 @@ walk-loop-w-smaller t c = second-low c.loop-w.invariant c.fields-w.ensures (sym 
 pub walk-loop-w-preserved : goal.walk-loop-w-preserved
 walk-loop-w-preserved t c = walking_on c.loop-w.invariant c.fields-w.ensures (sym c.code.ensures ∙ c.loop-w-test.true) c.walk_first-set.ensures
 
-pub walk-walk_single-requires : goal.walk-walk_single-requires
-walk-walk_single-requires t c = (omega (arith, c.decreases, c.loop-w.invariant.low), record { ready = c.loop-w.invariant.ready; code = λ e. c.loop-w-test.false (c.code.ensures ∙ e) })
-
-pub walk-shape_of-out : goal.walk-shape_of-out
-walk-shape_of-out t c = c.walk_single.auto.out ∙ c.loop-w.invariant.rest.size
-
 pub walk-returns : goal.walk-returns
 walk-returns t c = walking-last c.loop-w.invariant c.walk_single.ensures
 
@@ -42,9 +36,6 @@ walk_arms-loop-here-init t c = arms-all _ c.requires
 pub walk_arms-fields-w-requires : goal.walk_arms-fields-w-requires
 walk_arms-fields-w-requires t c = row-of-kind arm _ c.loop-here.invariant.ready.lent.formed (omega arith) (here-kind _ c.loop-here.invariant c.loop-here-test.true)
 
-pub walk_arms-mask_at-requires : goal.walk_arms-mask_at-requires
-walk_arms-mask_at-requires t c = arm-masks _ c.loop-here.invariant c.fields-w.ensures c.loop-here-test.true
-
 pub walk_arms-walk-ends-requires : goal.walk_arms-walk-ends-requires
 walk_arms-walk-ends-requires t c = (omega (arith, c.decreases, arm_low _ c.loop-here.invariant c.fields-w.ensures c.loop-here-test.true), arm-ready _ c.loop-here.invariant c.fields-w.ensures c.loop-here-test.true)
 
@@ -52,10 +43,7 @@ pub walk_arms-loop-here-smaller : goal.walk_arms-loop-here-smaller
 walk_arms-loop-here-smaller t c = arm-less _ c.loop-here.invariant c.fields-w.ensures c.loop-here-test.true
 
 pub walk_arms-loop-here-preserved : goal.walk_arms-loop-here-preserved
-walk_arms-loop-here-preserved t c = arms-on _ c.loop-here.invariant c.fields-w.ensures c.loop-here-test.true _ c.mask_at.ensures c.walk-ends.ensures
-
-pub walk_arms-shape_of-out : goal.walk_arms-shape_of-out
-walk_arms-shape_of-out t c = c.loop-here.invariant.rest.size
+walk_arms-loop-here-preserved t c = arms-on _ c.loop-here.invariant c.fields-w.ensures c.loop-here-test.true _ c.masks_in.ensures c.walk-ends.ensures
 
 pub walk_arms-returns : goal.walk_arms-returns
 walk_arms-returns t c = arms_last _ c.loop-here.invariant c.loop-here-test.false
@@ -75,53 +63,26 @@ walk_branches-loop-here-smaller t c = branch_less _ c.loop-here.invariant c.fiel
 pub walk_branches-loop-here-preserved : goal.walk_branches-loop-here-preserved
 walk_branches-loop-here-preserved t c = branches-on _ c.loop-here.invariant c.fields-w.ensures c.loop-here-test.true c.walk-ends.ensures
 
-pub walk_branches-shape_of-out : goal.walk_branches-shape_of-out
-walk_branches-shape_of-out t c = c.loop-here.invariant.rest.size
-
 pub walk_branches-returns : goal.walk_branches-returns
 walk_branches-returns t c = branches-last _ c.loop-here.invariant c.loop-here-test.false
 
 pub walk_first-code-requires : goal.walk_first-code-requires
 walk_first-code-requires t c = row-of-kind action _ c.requires.lent.formed (omega arith) c.requires.kind
 
-pub walk_first-plain-requires : goal.walk_first-plain-requires
-walk_first-plain-requires t c = record { lent = c.requires.lent; kind = c.requires.kind; code = omega (arith, c.code.ensures, c.if-code-lt53.true) }
-
 pub walk_first-returns-then-code-lt53 : goal.walk_first-returns-then-code-lt53
 walk_first-returns-then-code-lt53 t c = do-plain c.requires.sets c.plain.ensures
-
-pub walk_first-walk-requires : goal.walk_first-walk-requires
-walk_first-walk-requires t c = (omega (arith, c.decreases), c.requires)
-
-pub walk_first-shape_of-out : goal.walk_first-shape_of-out
-walk_first-shape_of-out t c = c.walk.auto.out
-
-pub walk_first-returns : goal.walk_first-returns
-walk_first-returns t c = c.walk.ensures
 
 pub walk_loop-fields-w-requires : goal.walk_loop-fields-w-requires
 walk_loop-fields-w-requires t c = row-of-kind action _ c.requires.ready.lent.formed (omega arith) c.requires.ready.kind
 
-pub walk_loop-mask_at-variable-requires : goal.walk_loop-mask_at-variable-requires
-walk_loop-mask_at-variable-requires t c = (loop-masks c.requires c.fields-w.ensures).1
-
 pub walk_loop-walk-ends-requires : goal.walk_loop-walk-ends-requires
 walk_loop-walk-ends-requires t c = (omega (arith, c.decreases, body-low c.requires c.fields-w.ensures), body-ready c.requires c.fields-w.ensures)
 
-pub walk_loop-mask_at-requires : goal.walk_loop-mask_at-requires
-walk_loop-mask_at-requires t c = (loop-masks c.requires c.fields-w.ensures).0
-
-pub walk_loop-shape_of-out : goal.walk_loop-shape_of-out
-walk_loop-shape_of-out t c = c.walk-ends.auto.out
-
 pub walk_loop-returns : goal.walk_loop-returns
-walk_loop-returns t c = do-loop c.requires c.fields-w.ensures _ _ _ _ _ c.mask_at-variable.ensures c.mask_at.ensures c.walk-ends.ensures c.inside.ensures c.inside-2.ensures
+walk_loop-returns t c = do-loop c.requires c.fields-w.ensures _ _ _ _ c.masks_in-head.ensures c.walk-ends.ensures c.inside.ensures c.inside-2.ensures
 
 pub walk_single-fields-w-requires : goal.walk_single-fields-w-requires
 walk_single-fields-w-requires t c = row-of-kind action _ c.requires.ready.lent.formed (omega arith) c.requires.ready.kind
-
-pub walk_single-jump-requires : goal.walk_single-jump-requires
-walk_single-jump-requires t c = as-jump c.requires c.fields-w.ensures c.in-53.is
 
 pub walk_single-walk_branches-requires : goal.walk_single-walk_branches-requires
 walk_single-walk_branches-requires t c = (
@@ -129,48 +90,21 @@ walk_single-walk_branches-requires t c = (
   branches-ready c.requires c.fields-w.ensures c.in-55.is,
 )
 
-pub walk_single-mask_at-requires : goal.walk_single-mask_at-requires
-walk_single-mask_at-requires t c = (case-masks c.requires c.fields-w.ensures c.in-56.is).0
-
-pub walk_single-mask_at-requires-in-56 : goal.walk_single-mask_at-requires-in-56
-walk_single-mask_at-requires-in-56 t c = (case-masks c.requires c.fields-w.ensures c.in-56.is).1
-
 pub walk_single-walk_arms-requires : goal.walk_single-walk_arms-requires
 walk_single-walk_arms-requires t c = (
   omega (arith, c.decreases, arms-low c.requires c.fields-w.ensures c.in-56.is),
   arms-ready c.requires c.fields-w.ensures c.in-56.is,
 )
 
-pub walk_single-walk_loop-requires : goal.walk_single-walk_loop-requires
-walk_single-walk_loop-requires t c = (omega (arith, c.decreases), as-loop c.requires c.fields-w.ensures (c.in-59.if-c-lt59-own.false, omega (arith, c.in-59.if-c-lt61-own.true)))
-
 pub walk_single-plain-requires : goal.walk_single-plain-requires
 walk_single-plain-requires t c = as_plain c.requires c.fields-w.ensures c.in_default-1.rest.0.0.1 c.in_default-1.rest.0.1 c.in_default-1.rest.1
     (λ p. elim c.in_default.branch [ walk_single-in_default-via-then-c-lt59 w ↦ omega (arith, p.0, w.if-c-lt59-1.true) | walk_single-in_default-via-else-c-lt59+else-c-lt61 w ↦ omega (arith, p.1, w.if-c-lt61-1.false) ])
 
-pub walk_single-shape_of-out-in-53 : goal.walk_single-shape_of-out-in-53
-walk_single-shape_of-out-in-53 t c = c.jump.auto.out
-
-pub walk_single-returns-in-53 : goal.walk_single-returns-in-53
-walk_single-returns-in-53 t c = do-fine c.jump.ensures
-
-pub walk_single-shape_of-out-in-55 : goal.walk_single-shape_of-out-in-55
-walk_single-shape_of-out-in-55 t c = c.walk_branches.auto.out
-
 pub walk_single-returns-in-55 : goal.walk_single-returns-in-55
 walk_single-returns-in-55 t c = do-select c.requires c.fields-w.ensures c.in-55.is _ c.walk_branches.ensures
 
-pub walk_single-shape_of-out-in-56 : goal.walk_single-shape_of-out-in-56
-walk_single-shape_of-out-in-56 t c = c.walk_arms.auto.out
-
 pub walk_single-returns-in-56 : goal.walk_single-returns-in-56
-walk_single-returns-in-56 t c = do-case c.requires c.fields-w.ensures c.in-56.is _ _ _ _ c.walk_arms.ensures c.mask_at.ensures c.mask_at-in-56.ensures c.inside.ensures
-
-pub walk_single-shape_of-out-in-59 : goal.walk_single-shape_of-out-in-59
-walk_single-shape_of-out-in-59 t c = c.walk_loop.auto.out
-
-pub walk_single-returns-in-59 : goal.walk_single-returns-in-59
-walk_single-returns-in-59 t c = c.walk_loop.ensures
+walk_single-returns-in-56 t c = do-case c.requires c.fields-w.ensures c.in-56.is _ _ _ _ c.walk_arms.ensures c.masks_in.ensures c.masks_in-in-56.ensures c.inside.ensures
 
 pub walk_single-returns-in_default : goal.walk_single-returns-in_default
 walk_single-returns-in_default t c = do-plain c.requires.ready.sets c.plain.ensures

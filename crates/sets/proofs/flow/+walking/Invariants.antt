@@ -25,19 +25,19 @@ abbrev pub decreases-walk : goal.decreases-walk
 decreases-walk l = 4 * l.row + 2
 
 abbrev pub invariant-walk-loop-w : goal.invariant-walk-loop-w
-invariant-walk-loop-w l = Walking l.image.now l.i l.uses.now l.defs.now l.row l.entering l.top l.initial.out l.out l.initial.moved l.moved l.initial.fine l.fine l.here l.set
+invariant-walk-loop-w l = Walking l.lent.x.image.now l.lent.x.trailer l.lent.masks.now l.row l.entering l.lent.top l.initial.out l.out l.initial.found.moved l.found.moved l.initial.found.fine l.found.fine l.here l.set
 
 abbrev pub decreases-walk-loop-w : goal.decreases-walk-loop-w
 decreases-walk-loop-w l = l.here
 
 abbrev pub invariant-walk_arms-loop-here : goal.invariant-walk_arms-loop-here
-invariant-walk_arms-loop-here l = Listing arm (arming l.image.now l.top l.entering) l.image.now l.i l.uses.now l.defs.now l.row l.top l.initial.out l.out l.initial.moved l.moved l.initial.fine l.fine l.here l.ends
+invariant-walk_arms-loop-here l = Listing arm (arming l.lent.x.image.now l.lent.top l.entering) l.lent.x.image.now l.lent.x.trailer l.lent.masks.now l.row l.lent.top l.initial.out l.out l.initial.found.moved l.found.moved l.initial.found.fine l.found.fine l.here l.ends
 
 abbrev pub decreases-walk_arms-loop-here : goal.decreases-walk_arms-loop-here
 decreases-walk_arms-loop-here l = (l.here + 1) % 65536
 
 abbrev pub invariant-walk_branches-loop-here : goal.invariant-walk_branches-loop-here
-invariant-walk_branches-loop-here l = Listing branch (branching l.image.now l.top l.entering) l.image.now l.i l.uses.now l.defs.now l.row l.top l.initial.out l.out l.initial.moved l.moved l.initial.fine l.fine l.here l.ends
+invariant-walk_branches-loop-here l = Listing branch (branching l.lent.x.image.now l.lent.top l.entering) l.lent.x.image.now l.lent.x.trailer l.lent.masks.now l.row l.lent.top l.initial.out l.out l.initial.found.moved l.found.moved l.initial.found.fine l.found.fine l.here l.ends
 
 abbrev pub decreases-walk_branches-loop-here : goal.decreases-walk_branches-loop-here
 decreases-walk_branches-loop-here l = (l.here + 1) % 65536

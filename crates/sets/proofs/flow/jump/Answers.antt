@@ -17,12 +17,9 @@ pub returns-then-new-old : goal.returns-then-new-old
 unfolding meet
 returns-then-new-old c = still-jump c.requires c.fields-w.ensures _ _ refl c.if-new-old.true
 
-pub bounds-out-q-2 : goal.bounds-out-q-2
-bounds-out-q-2 c = jump-inside c.requires c.fields-w.ensures
-
-pub overflow_shl-moved : goal.overflow_shl-moved
-overflow_shl-moved c = jump_small c.requires c.fields-w.ensures
+pub bit-requires : goal.bit-requires
+bit-requires c = jump_small c.requires c.fields-w.ensures
 
 pub returns : goal.returns
 unfolding meet
-returns c = do-jump c.requires c.fields-w.ensures _ _ refl c.if-new-old.false
+returns c = do-jump c.requires c.fields-w.ensures _ _ refl _ c.if-new-old.false c.bit.ensures

@@ -3,7 +3,7 @@ use Rattle.speech.proofs.Sixty.{value_in, value_out, no_value}
 use Rattle.speech.proofs.arms.value_bit.Goals as goal
 
 pub returns-then-value-lt64 : goal.returns-then-value-lt64
-returns-then-value-lt64 c = value_in _ _ c.if-code-eq34.true c.if-value-lt64.true
+returns-then-value-lt64 c = value_in _ _ _ c.if-code-eq34.true c.bit.ensures
 
 pub returns-else-value-lt64 : goal.returns-else-value-lt64
 returns-else-value-lt64 c = value_out _ _ c.if-value-lt64.false

@@ -1,0 +1,11 @@
+-- `image::type_count` meets its contract. Assumes nothing.
+use native.Mathlib.Omega.{arith}
+use mathlib.Core.Path.{sym}
+use Rattle.image.proofs.Laid.{laid, types-count}
+use Rattle.image.proofs.Automaton.type_count.Goals as goal
+
+pub overflow_sub-result : goal.overflow_sub-result
+overflow_sub-result c = let l = laid c.requires in omega (arith, l.types)
+
+pub returns : goal.returns
+returns c = sym (types-count c.requires)
