@@ -33,14 +33,15 @@ fn tables(image: &[u8]) -> Result<(), Refusal>
     rows_verdict(&x)
 }
 
-// 8 and 9, with the masks of rows that the later stages read.
+// 8 and 9, with the masks of rows that the later stages read. On a copy of the automaton, which the compiler keeps in registers.
 fn rules(x: &Automaton, masks: &mut [Masks]) -> Result<(), Refusal>
     requires { Lent x.now.image.now x.now.trailer masks.old }
     ensures { Ruled (tables x.now) (row_count x.now.trailer) result masks.new }
 {
-    fill(x, masks);
-    typing_verdict(x)?;
-    binding_verdict(x, masks)
+    let own = *x;
+    fill(&own, masks);
+    typing_verdict(&own)?;
+    binding_verdict(&own, masks)
 }
 
 // 10 and 11: room for the sets, then the sets and what is read before it is set.
