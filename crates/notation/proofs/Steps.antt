@@ -28,11 +28,11 @@ pub record Left (all : List ℕ) (p : Page) (rest : List ℕ) (q : Page) : Type 
   pub is : emit rest (shown q) ≡ emit all (shown p)
   pub slice : q.text.ghost_name ≡ p.text.ghost_name
 
-left-next : {all rest more : List ℕ} {p q r : Page} → Left all p (more ++ rest) q → Written more q r → Left all p rest r
+pub left-next : {all rest more : List ℕ} {p q r : Page} → Left all p (more ++ rest) q → Written more q r → Left all p rest r
 left-next {all} {rest} {more} {p} {q} l e =
     record { is = ap (emit rest) e.emitted.is ∙ sym (emit-append more rest (shown q)) ∙ l.is; slice = e.slice ∙ l.slice }
 
-left-none : {all rest : List ℕ} {p q : Page} → Left all p rest q → rest ≡ [] → Written all p q
+pub left-none : {all rest : List ℕ} {p q : Page} → Left all p rest q → rest ≡ [] → Written all p q
 unfolding emit
 left-none {all} {rest} {p} {q} l e =
     record { emitted = record { is = ap (λ (t : List ℕ). emit t (shown q)) (sym e) ∙ l.is }; slice = l.slice }

@@ -76,7 +76,7 @@ module _ (x : Tables) (at : ℕ) where
   unfolding list_fits
   list_over left e = rw (ended left e, le-leb 0 left (omega arith))
 
-  list-long : (left : ℕ) → left ≡ 0 → (at ≡ none → ⊥) → false ≡ list_fits x left at
+  pub list-long : (left : ℕ) → left ≡ 0 → (at ≡ none → ⊥) → false ≡ list_fits x left at
   unfolding list_fits list_up_to
   list-long left e h = rw (e, goes_on 0 h)
 

@@ -46,20 +46,19 @@ module _ {s : List ℕ} {i : Image} {top : ℕ} {l : List ℕ} (d : Beginning s 
   begin-some = let p = d.formed.located in omega (arith, d.size, states-count p, (laid p).states_least)
 
 -- all variables everywhere, then the parameters at state 0
-begun-is : (x : Tables) (n top p : ℕ) → 0 < n → n ≡ length x.states → top ≡ top_of x → p ≡ parameters_of x.variables
-    → set (replicate n top) 0 p ≡ begun x
-begun-is x n top p z m e f = ext_get_or 0 (set (replicate n top) 0 p) (begun x) (size ∙ m ∙ sym (begun-length x)) (λ q b. go q (omega (arith, size)) (ℕ_discrete q 0))
+pub begun-is : (x : Tables) (top p : ℕ) (l : List ℕ) → 0 < length x.states → length l ≡ length x.states → top ≡ top_of x → p ≡ parameters_of x.variables
+    → ((q : ℕ) → q < length l → get_or l q 0 ≡ top) → set l 0 p ≡ begun x
+begun-is x top p l z n e f h = ext_get_or 0 (set l 0 p) (begun x) (length-set l 0 p ∙ n ∙ sym (begun-length x)) (λ q b. go q (omega (arith, length-set l 0 p)) (ℕ_discrete q 0))
   where
-    size : length (set (replicate n top) 0 p) ≡ n
-    size = length-set (replicate n top) 0 p ∙ length-replicate n top
-
-    go : (q : ℕ) → q < n → Dec (q ≡ 0) → get_or (set (replicate n top) 0 p) q 0 ≡ get_or (begun x) q 0
-    go q b (yes k) = rw (k, get_or-set_same (replicate n top) 0 p 0 (omega (arith, length-replicate n top)), begun-at x 0 (omega arith)) f
-    go q b (no k) = rw (get_or-set_other (replicate n top) 0 q p 0 k, begun-at x q (omega arith), ne_eqb q 0 k) (get_or-replicate n q top 0 b ∙ e)
+    go : (q : ℕ) → q < length l → Dec (q ≡ 0) → get_or (set l 0 p) q 0 ≡ get_or (begun x) q 0
+    go q b (yes k) = rw (k, get_or-set_same l 0 p 0 (omega arith), begun-at x 0 z) f
+    go q b (no k) = rw (get_or-set_other l 0 q p 0 k, begun-at x q (omega arith), ne_eqb q 0 k) (h q b ∙ e)
 
 pub begun-all : {s : List ℕ} {i : Image} {top p : ℕ} {l k : List ℕ} → Beginning s i top l → k ≡ replicate (length l) top
     → p ≡ parameters_of (tables_of s).variables → set k 0 p ≡ begun (tables_of s)
-begun-all d e f = rw e (begun-is _ _ _ _ (begin-some d) d.size d.all f)
+begun-all {s} {i} {top} {p} {l} d e f =
+    let n : length (replicate (length l) top) ≡ length l = length-replicate (length l) top in
+    rw e (begun-is (tables_of s) top p (replicate (length l) top) (omega (arith, begin-some d, d.size)) (n ∙ d.size) d.all f (λ q b. get_or-replicate (length l) q top 0 (omega (arith, n))))
 
 module _ (x : Tables) (inside : Sub (parameters_of x.variables) (top_of x)) where
   pick : (P : ℕ → Type 0) (q : ℕ) → (q ≡ 0 → P (parameters_of x.variables)) → P (top_of x) → P (cond (eqb q 0) (parameters_of x.variables) (top_of x))

@@ -57,7 +57,7 @@ decimal-width (suc k) n h =
     (λ d. rw (decimal-tenth n [] d, decimal-append, length-append) (omega (arith, decimal-width k (n / 10) (omega (arith, pow-suc 10 (suc k))))))
 
 -- at most 5 digits of a 16-bit number, and 6 bytes with one after them
-decimal-most : (n : ℕ) → n < 65536 → length (decimal n []) ≤ 5
+pub decimal-most : (n : ℕ) → n < 65536 → length (decimal n []) ≤ 5
 decimal-most n h = decimal-width 4 n (omega arith)
 
 pub decimal-after : (n b : ℕ) → n < 65536 → length (decimal n (b ∷ [])) ≤ 6

@@ -1,13 +1,18 @@
 -- Text put piece after piece. Assumes nothing.
-use mathlib.Core.{Path.◌≡◌, Path.refl, Path.sym, Path.◌∙◌, List.List, List.[], List.◌∷◌, List.◌++◌, List.append_assoc, List.append-nil}
+use mathlib.Core.{Path.◌≡◌, Path.refl, Path.sym, Path.ap, Path.◌∙◌, List.List, List.[], List.◌∷◌, List.◌++◌, List.append_assoc, List.append-nil}
 use Prim.Native.Nat.{ℕ, ◌+◌, ◌<◌, ◌≤◌}
 use native.Mathlib.{Omega.arith, Numerals.add-one, Nat.add-zero}
-use lib.{ListN.length, ListN.take, ListN.drop, ListN.set, ListN.take-append-drop, ListN.length-append, Seq.length-take-le, Seq.take_at, Seq.drop-append-add, Seq.drop-drop, Seq.set_split, Seq.append_snoc}
+use lib.{ListN.length, ListN.take, ListN.drop, ListN.set, ListN.take-append-drop, ListN.length-append, ListN.length-drop, Seq.length-take-le, Seq.take_at, Seq.drop-append-add, Seq.drop-drop, Seq.set_split, Seq.append_snoc}
 use Rattle.text.specs.Put.{Put}
 
 -- what stands before the end of the text put
 head-long : (s : List ℕ) (at : ℕ) (t : List ℕ) → at ≤ length s → length (take at s ++ t) ≡ at + length t
 head-long s at t h = rw (length-append, length-take-le at s h)
+
+-- the slice keeps its length
+pub put-length : {s : List ℕ} {at : ℕ} {t : List ℕ} {r : ℕ} {u : List ℕ} → Put s at t r u → r ≤ length s → length u ≡ length s
+put-length {s} {at} {t} {r} p h =
+    ap length p.text ∙ rw (length-append (take at s ++ t), head-long s at t (omega (arith, p.next)), length-drop) (omega (arith, p.next))
 
 -- nothing put
 pub put-none : (s : List ℕ) (at : ℕ) → Put s at [] at s

@@ -47,7 +47,7 @@ pub length-signed_words : (s : List ℕ) → length (signed_words s) ≡ length 
 unfolding signed_words words_of
 length-signed_words s = length-map (words_of 4 s) (signed (2 ^ 31)) ∙ length-table _ 0 (length s / 4)
 
-get_or-signed_words : (s : List ℕ) (i : ℕ) → i < length s / 4 → get_or (signed_words s) i (pos 0) ≡ word_at s i
+pub get_or-signed_words : (s : List ℕ) (i : ℕ) → i < length s / 4 → get_or (signed_words s) i (pos 0) ≡ word_at s i
 unfolding signed_words words_of word_at
 get_or-signed_words s i h =
     get_or-map (signed (2 ^ 31)) (words_of 4 s) i 0
