@@ -17,6 +17,9 @@ use masks::{bit, inside};
 use model::{Fields, Image, Refusal};
 use text::Page;
 
+// The least refusal of an image whose rows are trees: each is named once.
+const TREES: u16 = 8;
+
 // A line without rows, by its fields.
 pub fn put_said(st: Style, k: u32, a: u16, b: u16, c: u16, r: u16, page: &mut Page<'_>)
     ensures { Written (words_text st k (fields_with a b c) r) page.old page.new }
@@ -210,7 +213,7 @@ pub(crate) fn put_shown(image: &[u8], st: Style, n: u16, page: &mut Page<'_>)
         put_trailer(x.trailer, st, page);
     } else if n < 5 {
         put_tables(&x, st, page);
-    } else if n < 8 {
+    } else if n < TREES {
         put_raw(&x, st, page);
     } else {
         put_listing(&x, st, page);

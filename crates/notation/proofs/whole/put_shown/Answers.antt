@@ -24,13 +24,13 @@ returns-then-n-lt5 c = rw (shown_text, le-ltb c.args.n 3 (search rules), le-ltb 
 pub put_raw-requires : goal.put_raw-requires
 put_raw-requires c = rw c.trailer.ensures (c.requires.located (search rules))
 
-pub returns-then-n-lt8 : goal.returns-then-n-lt8
+pub returns-then-n-lt-TREES : goal.returns-then-n-lt-TREES
 unfolding shown_text
-returns-then-n-lt8 c = rw (shown_text, le-ltb c.args.n 3 (search rules), le-ltb c.args.n 4 (search rules), le-ltb c.args.n 5 (search rules), lt-ltb c.args.n 8 (search rules), ← c.trailer.ensures) c.put_raw.ensures
+returns-then-n-lt-TREES c = rw (shown_text, le-ltb c.args.n 3 (search rules), le-ltb c.args.n 4 (search rules), le-ltb c.args.n 5 (search rules), lt-ltb c.args.n 8 (search rules), ← c.trailer.ensures) c.put_raw.ensures
 
 pub put_listing-requires : goal.put_listing-requires
 put_listing-requires c = rw c.trailer.ensures (c.requires.located (search rules))
 
-pub returns-else-n-lt8 : goal.returns-else-n-lt8
+pub returns-else-n-lt-TREES : goal.returns-else-n-lt-TREES
 unfolding shown_text
-returns-else-n-lt8 c = rw (shown_text, le-ltb c.args.n 3 (search rules), le-ltb c.args.n 4 (search rules), le-ltb c.args.n 5 (search rules), le-ltb c.args.n 8 (search rules), ← c.trailer.ensures) c.put_listing.ensures
+returns-else-n-lt-TREES c = rw (shown_text, le-ltb c.args.n 3 (search rules), le-ltb c.args.n 4 (search rules), le-ltb c.args.n 5 (search rules), le-ltb c.args.n 8 (search rules), ← c.trailer.ensures) c.put_listing.ensures
