@@ -145,14 +145,13 @@ impl<'a> Reading<'a> {
         Some(())
     }
 
-    // A row ends: zeros to four fields.
+    // A row ends: to four fields it has the zeros that the image began with.
     fn row(&mut self) -> Option<()> {
         if self.section != Section::Rows || 4 < self.fields {
             return None;
         }
-        for _ in self.fields..4 {
-            self.put(0, false)?;
-        }
+        let zeros = 2 * (4 - self.fields) as usize;
+        self.case.image = self.case.image.saturating_add(zeros);
         self.fields = 0;
         Some(())
     }
