@@ -6,7 +6,7 @@
  * may run at the same time. What the caller owes: a pointer has as many bytes behind it as the length says, they stay
  * as they are while the call runs, and a buffer that is written shares no byte with another buffer of the call. A
  * pointer whose length is 0 isn't followed and may be NULL. A call takes its stack from its caller, less than 256 KiB of
- * it: on the deepest images there are 200 kB for check, 132 for start, 165 for step (README.md, "For C"). */
+ * it: on the deepest images there are 134 kB for check, 132 for start, 165 for step (README.md, "For C"). */
 #ifndef NTIF_H
 #define NTIF_H
 
